@@ -1,0 +1,24 @@
+-- Bounds on indexes of a grid and on products. Assumes nothing.
+use Prim.Native.Nat.{ℕ, suc, _+_, _*_, _≤_, _<_}
+use native.Mathlib.Omega.{arith}
+use native.Mathlib.Nat.{mul-le-mul, mul-le-mul-right}
+
+-- pixel (x, y) of w columns and h rows
+pub index-lt : (x y w h : ℕ) → x < w → y < h → y * w + x < h * w
+index-lt x y w h p q =
+    let m : suc y * w ≤ h * w = mul-le-mul-right w q in
+    omega (arith, m)
+
+-- the first x pixels of row y
+pub index-le : (x y w h : ℕ) → x ≤ w → y < h → y * w + x ≤ h * w
+index-le x y w h p q =
+    let m : suc y * w ≤ h * w = mul-le-mul-right w q in
+    omega (arith, m)
+
+-- a product of bounded numbers
+pub product-le : (a b m n : ℕ) → a ≤ m → b ≤ n → a * b ≤ m * n
+product-le a b m n p q = mul-le-mul p q
+
+-- numbers of at most 4,096: the sides of an image
+pub image-product : (a b : ℕ) → a ≤ 4096 → b ≤ 4096 → a * b ≤ 16777216
+image-product a b p q = product-le a b 4096 4096 p q

@@ -1,0 +1,5 @@
+pub mod Every
+pub mod NearestLaw
+pub mod LutLaws
+pub mod White
+pub mod InkLaws

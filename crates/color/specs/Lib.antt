@@ -1,0 +1,5 @@
+pub mod Decimal
+pub mod Lut
+pub mod Transfer
+pub mod YyCxCz
+pub mod Inks
