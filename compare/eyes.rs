@@ -44,7 +44,13 @@ pub fn list() -> String {
         ),
         (
             "Kernels that `y * (s / k)` in place of `(y * s) / k` in `exp` would change.",
-            [24.0, 30.0, 40.0, 50.0, 81.0, 91.984375, 104.34375].map(regrouping_shows).to_vec(),
+            [24.0, 30.0, 40.0, 50.0, 81.0, 91.984375, 104.34375]
+                .map(|ppi| changed_by(|dd, sigma| regrouped_exp(-dd / (2.0 * sigma * sigma)), ppi))
+                .to_vec(),
+        ),
+        (
+            "Kernels that `exp` of `-(d * d) / 2.0 / sigma / sigma` would change.",
+            [24.0, 127.0, 508.0].map(|ppi| changed_by(|dd, sigma| exp(-dd / 2.0 / sigma / sigma), ppi)).to_vec(),
         ),
         ("Sigma 0 and infinite.", vec![eye(5e-324, 5e-324), eye(f64::MAX, f64::MAX)]),
     ];
@@ -113,13 +119,18 @@ fn first(holds: impl Fn(u64) -> bool) -> u64 {
     from
 }
 
-/// The first eye at 10 cm, from `ppi` on in steps of 2⁻²⁰, whose kernels `regrouped_exp` changes.
-fn regrouping_shows(ppi: f64) -> DbsParams {
-    let shows = |e: &DbsParams| {
-        let kernel = |sigma, exp| kernel_of_samples(&samples(sigma, exp));
-        eye_sigmas(e).iter().any(|&sigma| kernel(sigma, exp) != kernel(sigma, regrouped_exp))
+/// The first eye at 10 cm, from `ppi` on in steps of 2⁻²⁰, whose kernels change where a Gaussian's
+/// samples are computed as `slip(d * d, sigma)`.
+fn changed_by(slip: fn(f64, f64) -> f64, ppi: f64) -> DbsParams {
+    let slipped = |sigma: f64| {
+        let r = (2.5 * sigma).ceil().max(1.0) as i32;
+        let g: Vec<f64> = (-r..=r).map(|d| slip(f64::from(d * d), sigma)).collect();
+        kernel_of_samples(&g)
     };
-    (0..).map(|i| eye(ppi + f64::from(i) / 1_048_576.0, 10.0)).find(shows).unwrap()
+    (0..1 << 17)
+        .map(|i| eye(ppi + f64::from(i) / 1_048_576.0, 10.0))
+        .find(|e| eye_kernels(e).map(|(_, values)| values) != eye_sigmas(e).map(slipped))
+        .expect("an eye that the slip changes")
 }
 
 /// `exp` with its quotient regrouped.
@@ -127,10 +138,4 @@ fn regrouped_exp(t: f64) -> f64 {
     let y = t / 1024.0;
     let s = (1..=10).rev().fold(1.0, |s, k| 1.0 + y * (s / f64::from(k)));
     (0..10).fold(s, |s, _| s * s)
-}
-
-/// The samples of `gaussian_blur`, before they are normalised, with a given `exp`.
-fn samples(sigma: f64, exp: fn(f64) -> f64) -> Vec<f64> {
-    let r = (2.5 * sigma).ceil().max(1.0) as i32;
-    (-r..=r).map(|d| exp(-f64::from(d * d) / (2.0 * sigma * sigma))).collect()
 }

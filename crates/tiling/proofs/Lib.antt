@@ -1,0 +1,4 @@
+mod Axis
+pub mod Sums
+pub mod TilingLaws
+pub mod Sizes
