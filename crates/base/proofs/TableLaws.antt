@@ -1,11 +1,11 @@
 -- Laws of `table` and `overwrite`, and of loops that fill a slice from the front. Assumes nothing.
 use Prim.Native.Nat.{ℕ, zero, suc, _+_, _-_, _≤_, _<_}
 use mathlib.Core.Path.{_≡_, refl, sym, ap, _∙_}
-use mathlib.Core.List.{List, [], _∷_, _++_, append-nil}
+use mathlib.Core.List.{List, [], _∷_, _++_, append-nil, append-assoc}
 use native.Mathlib.Numerals.{add-one}
 use native.Mathlib.Omega.{arith}
-use lib.ListN.{length, getD, take, drop, set, length-append, length-drop, length-set, drop-of-length-le}
-use lib.Seq.{set-at, drop-cons, append-snoc, ext-getD}
+use lib.ListN.{length, getD, take, drop, set, length-append, length-take, length-drop, length-set, drop-of-length-le}
+use lib.Seq.{length-take-le, set-at, drop-cons, append-snoc, ext-getD}
 use Rattle.base.specs.Loop.{table, overwrite}
 
 pub length-table : {A : Type 0} (n : ℕ) (f : ℕ → A) → length (table n f) ≡ n
@@ -72,4 +72,21 @@ fill-done {A} i n f s g a b h e =
 pub length-overwrite : {A : Type 0} (b : ℕ) (l s : List A) → b + length l ≤ length s → length (overwrite b l s) ≡ length s
 unfolding overwrite
 length-overwrite b l s h =
-    length-append (take b s) (l ++ drop (b + length l) s) ∙ (omega (arith, lib.ListN.length-take b s, length-append l (drop (b + length l) s), length-drop (b + length l) s))
+    length-append (take b s) (l ++ drop (b + length l) s) ∙ (omega (arith, length-take b s, length-append l (drop (b + length l) s), length-drop (b + length l) s))
+
+pub overwrite-none : {A : Type 0} (s : List A) → overwrite 0 [] s ≡ s
+unfolding overwrite
+overwrite-none s = refl
+
+-- one element more
+pub overwrite-more : {A : Type 0} (d : A) (b : ℕ) (l s : List A) (a : A) → b + length l < length s → set (overwrite b l s) (b + length l) a ≡ overwrite b (l ++ (a ∷ [])) s
+unfolding overwrite
+overwrite-more {A} d b l s a h =
+    let n = b + length l in
+    let head : length (take b s ++ l) ≡ n = length-append (take b s) l ∙ ap (λ (k : ℕ). k + length l) (length-take-le b s (omega arith)) in
+    let next : suc n ≡ b + length (l ++ (a ∷ [])) = omega (arith, length-append l (a ∷ [])) in
+    ap (λ (x : List A). set x n a) (sym (append-assoc (take b s) l (drop n s)) ∙ ap (λ (x : List A). (take b s ++ l) ++ x) (drop-cons s n d h))
+    ∙ set-at (take b s ++ l) (getD s n d) (drop (suc n) s) a n head
+    ∙ append-assoc (take b s) l (a ∷ drop (suc n) s)
+    ∙ ap (λ (x : List A). take b s ++ x) (sym (append-assoc l (a ∷ []) (drop (suc n) s)))
+    ∙ ap (λ (k : ℕ). take b s ++ ((l ++ (a ∷ [])) ++ drop k s)) next

@@ -1,0 +1,3 @@
+mod CeilLaws
+mod NonNegative
+pub mod EyeLaws

@@ -1,0 +1,4 @@
+pub mod Constants
+pub mod Exp
+pub mod Ceil
+pub mod Eye

@@ -1,0 +1,4 @@
+mod SquareLaws
+mod OverlapLaws
+mod OverwriteLaws
+pub mod KernelLaws

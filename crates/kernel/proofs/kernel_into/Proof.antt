@@ -1,0 +1,25 @@
+-- `kernel_into` meets its contract: the two calls are the definition. Assumes nothing.
+use mathlib.Core.Path.{ap, _∙_}
+use borrow.Author.Needs.{needs}
+use Rattle.kernel.specs.Kernel.{gaussianBlur, autocorrelation, kernelOf}
+use Rattle.kernel.proofs.kernel_into.Statement.{statement}
+use Rattle.kernel.proofs.kernel_into.Tie as tie
+
+gaussian-blur-requires : tie.Need-gaussian-blur-requires
+gaussian-blur-requires c κs = (c .before .before .before .pre .0, rw (← c .before .before .before .pre .1) (c .before .before .before .pre .3))
+
+autocorrelate-requires : tie.Need-autocorrelate-requires
+autocorrelate-requires c κs = search needs
+
+same-length : tie.Need-same-length
+same-length c = search needs
+
+same-length-2 : tie.Need-same-length-2
+same-length-2 c = search needs
+
+returns : tie.Need-returns
+unfolding kernelOf
+returns c = c .before .before .autocorrelate .ensures ∙ ap (λ p. autocorrelation p (c .before .before .before .before .before .before .before .before .before .before .before .args .r)) (c .before .before .before .before .before .before .before .gaussian-blur .ensures) ∙ ap (autocorrelation (gaussianBlur (c .before .before .before .before .before .before .before .before .before .before .before .args .sigma))) (c .before .before .before .before .before .before .before .before .before .before .before .pre .1)
+
+pub kernel-into-spec : {M : Type 1} → statement M
+kernel-into-spec = tie.close (tie.spec gaussian-blur-requires autocorrelate-requires same-length same-length-2 returns)

@@ -1,0 +1,33 @@
+-- `kernels_with` meets its contract: both widths of an accepted eye are narrow (`narrow-both`), so both kernels have room. Assumes nothing.
+use mathlib.Core.Path.{_∙_}
+use native.Mathlib.Omega.{arith}
+use borrow.Author.Needs.{needs}
+use Rattle.eye.proofs.EyeLaws.{eye-passes, narrow-both}
+use Rattle.kernel.specs.Kernel.{eyeKernels}
+use Rattle.kernel.proofs.kernels_with.Statement.{statement}
+use Rattle.kernel.proofs.kernels_with.Tie as tie
+
+eye-sigma-px-requires : tie.Need-eye-sigma-px-requires
+eye-sigma-px-requires c κs = search needs
+
+place-kernel-requires : tie.Need-place-kernel-requires
+place-kernel-requires c κs = (rw (c .before .before .eye-sigma-px .ensures) (narrow-both _ (eye-passes _ (c .before .before .before .before .before .pre .0)) .0), omega arith, omega arith)
+
+eye-sigma-px-requires-2 : tie.Need-eye-sigma-px-requires-2
+eye-sigma-px-requires-2 c κs = search needs
+
+place-kernel-requires-2 : tie.Need-place-kernel-requires-2
+place-kernel-requires-2 c κs = (rw (c .before .before .eye-sigma-px2 .ensures) (narrow-both _ (eye-passes _ (c .before .before .before .before .before .before .before .before .before .before .before .before .before .pre .0)) .1), omega arith, omega arith)
+
+same-length : tie.Need-same-length
+same-length c = search needs
+
+same-length-2 : tie.Need-same-length-2
+same-length-2 c = search needs
+
+returns : tie.Need-returns
+unfolding eyeKernels
+returns c = c .before .before .before .before .place-kernel2 .ensures ∙ rw (c .before .before .before .before .before .before .before .before .before .before .before .before .place-kernel .ensures, c .before .before .before .before .before .before .before .before .before .before .before .before .before .before .before .eye-sigma-px .ensures, c .before .before .before .before .before .before .before .eye-sigma-px2 .ensures)
+
+pub kernels-with-spec : {M : Type 1} → statement M
+kernels-with-spec = tie.close (tie.spec eye-sigma-px-requires place-kernel-requires eye-sigma-px-requires-2 place-kernel-requires-2 same-length same-length-2 returns)

@@ -1,0 +1,68 @@
+-- `moves::swap_with` meets its contract: both indices are read before either is written. Assumes nothing.
+use mathlib.Core.Path.{_∙_}
+use Rattle.moves.proofs.Laws.{window-limit, named-ink, small-index}
+use borrow.Author.Needs.{needs}
+use Rattle.moves.proofs.swap_with.Statement.{statement}
+use Rattle.moves.proofs.swap_with.Tie as tie
+
+index-at-requires : tie.Need-index-at-requires
+index-at-requires c κs = (c .before .before .before .before .before .pre .0, (window-limit (c .before .before .before .before .before .pre .1 .1), c .before .before .before .before .before .pre .1 .1 .indices-room))
+
+index-at-requires-2 : tie.Need-index-at-requires-2
+index-at-requires-2 c κs = (c .before .before .before .before .before .before .before .pre .1 .0, (window-limit (c .before .before .before .before .before .before .before .pre .1 .1), c .before .before .before .before .before .before .before .pre .1 .1 .indices-room))
+
+change-requires : tie.Need-change-requires
+change-requires c κs =
+    let w = c .before .before .before .before .before .before .before .before .pre .1 .1 in
+    rw (c .before .before .index-at .ensures, c .index-at2 .ensures) (named-ink w (c .before .before .before .before .before .before .before .before .args .nx) (c .before .before .before .before .before .before .before .before .args .ny) (c .before .before .before .before .before .before .before .before .pre .1 .0), named-ink w (c .before .before .before .before .before .before .before .before .args .x) (c .before .before .before .before .before .before .before .before .args .y) (c .before .before .before .before .before .before .before .before .pre .0))
+
+add-round-requires : tie.Need-add-round-requires
+add-round-requires c κs = search needs
+
+negated-requires : tie.Need-negated-requires
+negated-requires c κs = search needs
+
+add-round-requires-2 : tie.Need-add-round-requires-2
+add-round-requires-2 c κs =
+    let w = c .before .before .before .before .before .before .before .before .before .before .before .before .before .before .before .pre .1 .1 in
+    (c .before .before .before .before .before .before .before .before .before .before .before .before .before .before .before .pre .1 .0, (w .limits, (w .within, (w .cpp-room, c .before .before .before .before .add-round .kept .0 ∙ w .cpe))))
+
+put-index-requires : tie.Need-put-index-requires
+put-index-requires c κs =
+    let w = c .before .before .before .before .before .before .before .before .before .before .before .before .before .before .before .before .before .before .before .pre .1 .1 in
+    let j = small-index w (c .before .before .before .before .before .before .before .before .before .before .before .before .before .before .before .before .before .before .before .args .nx) (c .before .before .before .before .before .before .before .before .before .before .before .before .before .before .before .before .before .before .before .args .ny) (c .before .before .before .before .before .before .before .before .before .before .before .before .before .before .before .before .before .before .before .pre .1 .0) in
+    (c .before .before .before .before .before .before .before .before .before .before .before .before .before .before .before .before .before .before .before .pre .0, ((window-limit w .0, window-limit w .1, rw (c .before .before .before .before .before .before .before .before .before .before .before .index-at2 .ensures) j), w .indices-room))
+
+put-index-requires-2 : tie.Need-put-index-requires-2
+put-index-requires-2 c κs =
+    let w = c .before .before .before .before .before .before .before .before .before .before .before .before .before .before .before .before .before .before .before .before .before .before .before .pre .1 .1 in
+    let j = small-index w (c .before .before .before .before .before .before .before .before .before .before .before .before .before .before .before .before .before .before .before .before .before .before .before .args .x) (c .before .before .before .before .before .before .before .before .before .before .before .before .before .before .before .before .before .before .before .before .before .before .before .args .y) (c .before .before .before .before .before .before .before .before .before .before .before .before .before .before .before .before .before .before .before .before .before .before .before .pre .0) in
+    (c .before .before .before .before .before .before .before .before .before .before .before .before .before .before .before .before .before .before .before .before .before .before .before .pre .1 .0, ((window-limit w .0, window-limit w .1, rw (c .before .before .before .before .before .before .before .before .before .before .before .before .before .before .before .before .before .index-at .ensures) j), c .before .before .before .put-index .kept .0 ∙ w .indices-room))
+
+same-length : tie.Need-same-length
+same-length c = search needs
+
+same-length-2 : tie.Need-same-length-2
+same-length-2 c = search needs
+
+returns : tie.Need-returns
+returns c = (
+  rw (c .before .before .before .before .before .before .before .before .before .before .add-round2 .ensures, c .before .before .before .before .before .before .before .before .before .before .before .before .before .before .before .add-round .ensures, c .before .before .before .before .before .before .before .before .before .before .before .negated .ensures, c .before .before .before .before .before .before .before .before .before .before .before .before .before .before .before .before .before .change .ensures, c .before .before .before .before .before .before .before .before .before .before .before .before .before .before .before .before .before .before .before .before .index-at .ensures, c .before .before .before .before .before .before .before .before .before .before .before .before .before .before .before .before .before .before .index-at2 .ensures),
+  rw (c .before .before .put-index2 .ensures, c .before .before .before .before .before .before .put-index .ensures, c .before .before .before .before .before .before .before .before .before .before .before .before .before .before .before .before .before .before .before .before .index-at .ensures, c .before .before .before .before .before .before .before .before .before .before .before .before .before .before .before .before .before .before .index-at2 .ensures),
+)
+
+pub swap-with-spec : {M : Type 1} → statement M
+swap-with-spec =
+    tie.close
+    (tie.spec
+    index-at-requires
+    index-at-requires-2
+    change-requires
+    add-round-requires
+    negated-requires
+    add-round-requires-2
+    put-index-requires
+    put-index-requires-2
+    same-length
+    same-length-2
+    returns)

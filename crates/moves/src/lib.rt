@@ -1,0 +1,188 @@
+// Making a move: the end of `refine_tile` of dbs.rs, on a window of the image. Coordinates are the
+// image's; `cpe` and `indices` hold the pixels of the window.
+use base::Rect;
+use color::YyCxCz;
+use neighbour::Adjacent;
+use search::Move;
+use tiling::Tiling;
+ghost use mathlib.Core.Path.{_≡_};
+ghost use mathlib.Core.List.{[]};
+ghost use Prim.Native.Nat.{_+_, _*_, _<_, _≤_, _^_};
+ghost use lib.ListN.{length};
+ghost use Rattle.base.specs.Grid.{Inside, Within, area, put};
+ghost use Rattle.tiling.specs.Tiling.{Limits, image};
+ghost use Rattle.neighbour.specs.declared.Adjacent.the-variants.{Pixel};
+ghost use Rattle.neighbour.specs.Neighbour.{neighbourOf};
+ghost use Rattle.sweep.specs.Sweep.{addKernels};
+ghost use Rattle.search.specs.Shared.{shared, valuesAt, indexAt, lessOf, negOf, Held};
+ghost use Rattle.moves.specs.Moves.{Writable, NamesInk, exchanged, swapKernels, movedIndices, movedCpe, oneMore, counted};
+
+// Moves accepted and the sum of their costs.
+pub struct Progress {
+    pub accepted: usize,
+    pub delta: f64,
+}
+
+fn negated(a: YyCxCz) -> YyCxCz
+    ensures { λ r. ⌜ r ≡ negOf a ⌝ }
+{
+    YyCxCz {
+        yy: -a.yy,
+        cx: -a.cx,
+        cz: -a.cz,
+    }
+}
+
+// Ink j less ink k.
+fn change(inks: &[f64], j: usize, k: usize) -> YyCxCz
+    requires { ⌜ (3 * j + 2 < length (now inks)) × (3 * k + 2 < length (now inks)) ⌝ }
+    ensures { λ r. ⌜ r ≡ lessOf (valuesAt (now (inks .entry)) (3 * j)) (valuesAt (now (inks .entry)) (3 * k)) ⌝ }
+{
+    search::less(
+        search::values_at(inks, 3 * j),
+        search::values_at(inks, 3 * k),
+    )
+}
+
+// The index of a pixel of the window becomes j.
+fn put_index(indices: &mut [u8], w: Rect, x: usize, y: usize, j: usize)
+    requires { ⌜ Inside w x y ⌝ }
+    requires { ⌜ (w .x1 ≤ 4096) × (w .y1 ≤ 4096) × (j < 256) ⌝ }
+    requires { ⌜ length (now indices) ≡ area w ⌝ }
+    ensures { λ _. ⌜ now (indices .exit) ≡ put 0 1 w (now (indices .entry)) x y 0 j ⌝ }
+{
+    let m = search::local(w, x, y);
+    indices[m] = j as u8;
+}
+
+// a times the kernels is added round a pixel of the window.
+fn add_round(cpe: &mut [f64], cpp: &[f64], t: Tiling, w: Rect, x: usize, y: usize, a: YyCxCz)
+    requires { ⌜ Inside w x y ⌝ }
+    requires { ⌜ Limits t ⌝ }
+    requires { ⌜ Within (image t) w ⌝ }
+    requires { ⌜ (length (now cpp) ≡ 8450) × (length (now cpe) ≡ 3 * area w) ⌝ }
+    ensures { λ _. ⌜ now (cpe .exit) ≡ addKernels (now (cpp .entry)) t w x y a (now (cpe .entry)) ⌝ }
+{
+    sweep::add_kernels(cpe, cpp, t, w, x, y, a);
+}
+
+// The pixel takes ink j.
+fn toggle_to(
+    cpe: &mut [f64],
+    indices: &mut [u8],
+    inks: &[f64],
+    cpp: &[f64],
+    t: Tiling,
+    w: Rect,
+    x: usize,
+    y: usize,
+    j: usize,
+)
+    requires { ⌜ Inside w x y ⌝ }
+    requires { ⌜ Writable t w (now inks) (now cpp) (length (now cpe)) (now indices) ⌝ }
+    requires { ⌜ 3 * j + 2 < length (now inks) ⌝ }
+    ensures { λ _. ⌜ now (cpe .exit) ≡ addKernels (now (cpp .entry)) t w x y (lessOf (valuesAt (now (inks .entry)) (3 * j)) (valuesAt (now (inks .entry)) (3 * indexAt w (now (indices .entry)) x y))) (now (cpe .entry)) ⌝ }
+    ensures { λ _. ⌜ now (indices .exit) ≡ put 0 1 w (now (indices .entry)) x y 0 j ⌝ }
+{
+    let a = change(inks, j, search::index_at(indices, w, x, y));
+    add_round(cpe, cpp, t, w, x, y, a);
+    put_index(indices, w, x, y, j);
+}
+
+// Two pixels exchange their inks.
+fn swap_with(
+    cpe: &mut [f64],
+    indices: &mut [u8],
+    inks: &[f64],
+    cpp: &[f64],
+    t: Tiling,
+    w: Rect,
+    x: usize,
+    y: usize,
+    nx: usize,
+    ny: usize,
+)
+    requires { ⌜ Inside w x y ⌝ }
+    requires { ⌜ Inside w nx ny ⌝ }
+    requires { ⌜ Writable t w (now inks) (now cpp) (length (now cpe)) (now indices) ⌝ }
+    ensures { λ _. ⌜ now (cpe .exit) ≡ swapKernels (shared t 0 [] (now (inks .entry)) (now (cpp .entry))) w x y (Pixel nx ny) (now (indices .entry)) (now (cpe .entry)) ⌝ }
+    ensures { λ _. ⌜ now (indices .exit) ≡ exchanged w x y (Pixel nx ny) (now (indices .entry)) ⌝ }
+{
+    let k = search::index_at(indices, w, x, y);
+    let kn = search::index_at(indices, w, nx, ny);
+    let a = change(inks, kn, k);
+    add_round(cpe, cpp, t, w, x, y, a);
+    add_round(cpe, cpp, t, w, nx, ny, negated(a));
+    put_index(indices, w, x, y, kn);
+    put_index(indices, w, nx, ny, k);
+}
+
+// The pixel and its neighbour, if the code names one, exchange their inks.
+fn swap_by(
+    cpe: &mut [f64],
+    indices: &mut [u8],
+    inks: &[f64],
+    cpp: &[f64],
+    t: Tiling,
+    w: Rect,
+    x: usize,
+    y: usize,
+    code: u8,
+)
+    requires { ⌜ Held t w x y ⌝ }
+    requires { ⌜ Writable t w (now inks) (now cpp) (length (now cpe)) (now indices) ⌝ }
+    ensures { λ _. ⌜ now (cpe .exit) ≡ swapKernels (shared t 0 [] (now (inks .entry)) (now (cpp .entry))) w x y (neighbourOf code x y (t .width) (t .height)) (now (indices .entry)) (now (cpe .entry)) ⌝ }
+    ensures { λ _. ⌜ now (indices .exit) ≡ exchanged w x y (neighbourOf code x y (t .width) (t .height)) (now (indices .entry)) ⌝ }
+{
+    match neighbour::neighbour(code, x, y, t.width, t.height) {
+        Adjacent::Pixel { x: nx, y: ny } => swap_with(cpe, indices, inks, cpp, t, w, x, y, nx, ny),
+        Adjacent::Outside => {}
+    }
+}
+
+// A move of the pixel is made.
+pub fn apply_move(
+    cpe: &mut [f64],
+    indices: &mut [u8],
+    inks: &[f64],
+    cpp: &[f64],
+    t: Tiling,
+    w: Rect,
+    x: usize,
+    y: usize,
+    mv: Move,
+)
+    requires { ⌜ Held t w x y ⌝ }
+    requires { ⌜ Writable t w (now inks) (now cpp) (length (now cpe)) (now indices) ⌝ }
+    requires { ⌜ NamesInk (now inks) mv ⌝ }
+    ensures { λ _. ⌜ now (cpe .exit) ≡ movedCpe (shared t 0 [] (now (inks .entry)) (now (cpp .entry))) w x y mv (now (indices .entry)) (now (cpe .entry)) ⌝ }
+    ensures { λ _. ⌜ now (indices .exit) ≡ movedIndices t w x y mv (now (indices .entry)) ⌝ }
+{
+    match mv {
+        Move::Stay => {}
+        Move::Toggle(j) => toggle_to(cpe, indices, inks, cpp, t, w, x, y, j),
+        Move::Swap(code) => swap_by(cpe, indices, inks, cpp, t, w, x, y, code),
+    }
+}
+
+fn one_more(p: Progress, cost: f64) -> Progress
+    requires { ⌜ p .accepted < 2 ^ 62 ⌝ }
+    ensures { λ r. ⌜ r ≡ oneMore p cost ⌝ }
+{
+    Progress {
+        accepted: p.accepted + 1,
+        delta: p.delta + cost,
+    }
+}
+
+// A move counts, and its cost joins the sum.
+pub fn count_move(p: Progress, cost: f64, mv: Move) -> Progress
+    requires { ⌜ p .accepted < 2 ^ 62 ⌝ }
+    ensures { λ r. ⌜ r ≡ counted mv cost p ⌝ }
+{
+    match mv {
+        Move::Stay => p,
+        Move::Toggle(_) => one_more(p, cost),
+        Move::Swap(_) => one_more(p, cost),
+    }
+}

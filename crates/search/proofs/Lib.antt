@@ -1,0 +1,4 @@
+pub mod Window
+pub mod AllEight
+pub mod Order
+pub mod Laws

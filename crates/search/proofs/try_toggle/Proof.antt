@@ -1,0 +1,57 @@
+-- `search::try_toggle` meets its contract: each arm is the one that the test picks. Assumes nothing.
+use borrow.Author.Tests.{eq-eqb, ne-eqb}
+use borrow.Author.Needs.{needs}
+use Rattle.search.specs.Search.{tryToggle}
+use Rattle.search.proofs.try_toggle.Statement.{statement}
+use Rattle.search.proofs.try_toggle.Tie as tie
+
+returns : tie.Need-returns
+unfolding tryToggle
+returns c = simp (eq-eqb _ _ (c .if1 .taken))
+
+mul-values-at : tie.Need-mul-values-at
+mul-values-at c = search needs
+
+values-at-requires : tie.Need-values-at-requires
+values-at-requires c κs = search needs
+
+mul-values-at-2 : tie.Need-mul-values-at-2
+mul-values-at-2 c = search needs
+
+values-at-requires-2 : tie.Need-values-at-requires-2
+values-at-requires-2 c κs = search needs
+
+less-requires : tie.Need-less-requires
+less-requires c κs = search needs
+
+toggle-cost-requires : tie.Need-toggle-cost-requires
+toggle-cost-requires c κs = search needs
+
+better-requires : tie.Need-better-requires
+better-requires c κs = search needs
+
+returns-2 : tie.Need-returns-2
+unfolding tryToggle
+returns-2 c =
+    rw (
+      ne-eqb _ _ (c .before .before .before .before .before .if1 .left),
+      c .better .ensures,
+      c .before .toggle-cost .ensures,
+      c .before .before .less .ensures,
+      c .before .before .before .values-at2 .ensures,
+      c .before .before .before .before .values-at .ensures,
+    )
+
+pub try-toggle-spec : {M : Type 1} → statement M
+try-toggle-spec =
+    tie.close
+    (tie.spec
+    returns
+    mul-values-at
+    values-at-requires
+    mul-values-at-2
+    values-at-requires-2
+    less-requires
+    toggle-cost-requires
+    better-requires
+    returns-2)

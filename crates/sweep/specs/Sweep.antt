@@ -1,0 +1,81 @@
+-- Adding a multiple of the kernels to `cpe` round a pixel, cut at the window W: `sweep` and `add_kernels` of dbs.rs
+-- (document 01: 'adds a·kernel to the field round the dot, cut at the plane').
+use mathlib.Core.Path.{_≡_}
+use mathlib.Core.List.{List}
+use Prim.Native.Nat.{ℕ, _+_, _-_, _*_, _<_, _≤_, max, min}
+use lib.ListN.{getD, set}
+use lib.Ieee.{Float, nan}
+use Rattle.base.specs.declared.Rect.{Rect}
+use Rattle.base.specs.Loop.{upTo, fromTo}
+use Rattle.base.specs.Grid.{place, Inside}
+use Rattle.base.specs.F64.{_+f_, _*f_}
+use Rattle.color.specs.declared.YyCxCz.{YyCxCz}
+use Rattle.tiling.specs.declared.Tiling.{Tiling}
+use Rattle.sweep.specs.declared.Channels.{Channels}
+use Rattle.sweep.specs.declared.Channels.the-variants.{Luminance, Chrominance}
+use Rattle.cpp.specs.declared.Kernel2D.{Kernel2D}
+use Rattle.cpp.specs.Kernel.{lumKernel, chromaKernel, kernelPlace, kernelAt}
+use Rattle.sweep.specs.declared.Span.{Span}
+
+-- value j of a list grows by v
+unfoldable pub grow : ℕ → Float → List Float → List Float
+grow j v f = set f j (getD f j nan +f v)
+
+-- the pixel whose first value is value j grows by a times v: Yy by the luminance kernel, Cx and then Cz by the chrominance kernel
+unfoldable pub addAt : Channels → YyCxCz → Float → ℕ → List Float → List Float
+addAt Luminance a v j f = grow j (a .yy *f v) f
+addAt Chrominance a v j f = grow (j + 2) (a .cz *f v) (grow (j + 1) (a .cx *f v) f)
+
+-- the first n pixels of a row grow by a times the first n values of a row of the kernel
+unfoldable pub addPixels : Channels → YyCxCz → List Float → ℕ → List Float → List Float
+addPixels channels a kernel n f = upTo (λ i. addAt channels a (getD kernel i nan) (3 * i)) n f
+
+-- the kernel's first column and row inside the window, and one past its last, along one axis: the centre m, the radius r, the window from a up to b
+abbrev pub first : ℕ → ℕ → ℕ → ℕ
+first m r a = max a (m - r)
+
+abbrev pub past : ℕ → ℕ → ℕ → ℕ
+past m r b = min b (m + r + 1)
+
+module _ (channels : Channels) (a : YyCxCz) (cpp : List Float) (k : Kernel2D) (W : Rect) (mx my : ℕ) where
+  -- pixel (x, y) of the kernel's footprint round (mx, my)
+  unfoldable pub sweepPixel : ℕ → ℕ → List Float → List Float
+  sweepPixel y x f = addAt channels a (kernelAt cpp k (x + k .radius - mx) (y + k .radius - my)) (place 3 W x y 0) f
+
+  -- row y of the footprint
+  unfoldable pub sweepRow : ℕ → List Float → List Float
+  sweepRow y f = fromTo (first mx (k .radius) (W .x0)) (past mx (k .radius) (W .x1)) (sweepPixel y) f
+
+  -- the footprint, row by row
+  unfoldable pub sweepOf : List Float → List Float
+  sweepOf f = fromTo (first my (k .radius) (W .y0)) (past my (k .radius) (W .y1)) sweepRow f
+
+-- that row in the slices: its first value in `cpe`, its pixels, its first value in the kernel store
+unfoldable pub spanOf : Kernel2D → Rect → ℕ → ℕ → ℕ → Span
+spanOf k W mx my y = record {
+  at = 3 * ((y - W .y0) * (W .x1 - W .x0) + (first mx (k .radius) (W .x0) - W .x0));
+  pixels = past mx (k .radius) (W .x1) - first mx (k .radius) (W .x0);
+  from = kernelPlace k (first mx (k .radius) (W .x0) + k .radius - mx) (y + k .radius - my);
+}
+
+-- all three channels
+unfoldable pub addKernels : List Float → Tiling → Rect → ℕ → ℕ → YyCxCz → List Float → List Float
+addKernels cpp T W mx my a f =
+    sweepOf Chrominance a cpp (chromaKernel T) W mx my (sweepOf Luminance a cpp (lumKernel T) W mx my f)
+
+-- the pixel (mx, my) lies in a window of an image within the limits
+pub record Centred (W : Rect) (mx my : ℕ) : Type 0 where
+  pub pixel : Inside W mx my
+  pub right-limit : W .x1 ≤ 4096
+  pub bottom-limit : W .y1 ≤ 4096
+
+-- row y of the footprint
+abbrev pub InRows : Kernel2D → Rect → ℕ → ℕ → Type 0
+InRows k W my y = (first my (k .radius) (W .y0) ≤ y) × (y < past my (k .radius) (W .y1))
+
+-- the row lies in both slices, of l and m values
+pub record SpanFits (s : Span) (l m : ℕ) : Type 0 where
+  pub cpe-end : s .at + 3 * s .pixels ≤ l
+  pub cpe-limit : s .at + 3 * s .pixels ≤ 50331648
+  pub cpp-end : s .from + s .pixels ≤ m
+  pub cpp-limit : s .from + s .pixels ≤ 8450

@@ -1,0 +1,4 @@
+pub mod Around
+pub mod Local
+pub mod Keeps
+pub mod Walked
