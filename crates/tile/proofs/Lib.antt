@@ -2,3 +2,4 @@ pub mod Around
 pub mod Local
 pub mod Keeps
 pub mod Walked
+pub mod Reach

@@ -1,6 +1,6 @@
 -- Locality: a visit to a pixel, on a window that reaches far enough round it, does to the window's copy what it does to the image.
 -- It reads the pixel and its neighbours, and adds kernels of radius R round both, so R + 1 pixels round it are enough. Assumes nothing.
-use Prim.Native.Nat.{ℕ, suc, _+_, _*_, _-_, _≤_, _<_, max, min}
+use Prim.Native.Nat.{ℕ, suc, _+_, _-_, _≤_, _<_, max, min}
 use native.Mathlib.Omega.{arith}
 use mathlib.Core.Path.{_≡_, refl, sym, ap, ap₂, _∙_}
 use mathlib.Core.Bool.{Bool, true, false, cond}
@@ -9,7 +9,7 @@ use lib.Dec.{eqb}
 use lib.Ieee.{Float, nan}
 use Rattle.base.specs.declared.Rect.{Rect}
 use Rattle.base.specs.Loop.{upTo}
-use Rattle.base.specs.Grid.{width, Inside, Within, place, cell, put}
+use Rattle.base.specs.Grid.{Inside, Within, place, cell, put}
 use Rattle.base.specs.F64.{_+f_, _*f_}
 use Rattle.base.proofs.LoopLaws.{upTo-same, fromTo-rel}
 use Rattle.base.proofs.MirrorLaws.{Mirror, mirror-put}
@@ -26,6 +26,7 @@ use Rattle.cpp.specs.Kernel.{lumKernel, chromaKernel}
 use Rattle.sweep.specs.declared.Channels.{Channels}
 use Rattle.sweep.specs.declared.Channels.the-variants.{Luminance, Chrominance}
 use Rattle.sweep.specs.Sweep.{grow, addAt, sweepPixel, sweepRow, sweepOf, addKernels}
+use Rattle.sweep.proofs.Point.{grow-put}
 use Rattle.search.specs.declared.Best.{Best}
 use Rattle.search.specs.declared.Site.{Site}
 use Rattle.search.specs.declared.Move.{Move}
@@ -33,7 +34,7 @@ use Rattle.search.specs.declared.Move.the-variants.{Stay, Toggle, Swap}
 use Rattle.search.specs.Shared.{Shared, inkAt, cpeAt, indexAt, lessOf}
 use Rattle.search.specs.Search.{gaps, swapCost, betterOf, noMove, siteAt, toggles, eligible, partnerOf, swapWith, trySwap, swaps, evaluateOf}
 use Rattle.moves.specs.Moves.{exchanged, movedIndices, swapKernels, movedCpe, counted}
-use Rattle.tile.specs.Tile.{State, state, applied, visitOf, refineRow, refineTile}
+use Rattle.tile.specs.Tile.{State, applied, visitOf, refineRow, refineTile}
 use Rattle.tile.proofs.Around.{Around, around-inside, around-less, around-next}
 
 -- the larger radius
@@ -41,13 +42,6 @@ abbrev pub radius : Tiling → ℕ
 radius T = max (T .lum) (T .chroma)
 
 -- ---- a kernel added to both
-
--- value c of the pixel grows
-grow-put : (W : Rect) (x y c : ℕ) (v : Float) (f : List Float) → grow (place 3 W x y 0 + c) v f ≡ put nan 3 W f x y c (cell nan 3 W f x y c +f v)
-unfolding grow put cell place
-grow-put W x y c v f =
-    let e : 3 * ((y - W .y0) * width W + (x - W .x0)) + 0 + c ≡ 3 * ((y - W .y0) * width W + (x - W .x0)) + c = omega arith in
-    rw e
 
 lo-same : (a b r R : ℕ) → a ≤ b - R → r ≤ R → max a (b - r) ≡ max 0 (b - r)
 lo-same a b r R h k = omega arith

@@ -1,0 +1,11 @@
+-- `error::add_products` meets its contract, channel by channel. Assumes nothing.
+use Rattle.base.specs.F64.{_+f_, _*f_}
+use Rattle.error.proofs.Laws.{channelwise}
+use Rattle.error.proofs.add_products.Statement.{statement}
+use Rattle.error.proofs.add_products.Tie as tie
+
+returns : tie.Need-returns
+returns c = channelwise (λ s a b. s +f a *f b) (c .before .before .before .before .before .before .before .before .before .args .s) (c .before .before .before .before .before .before .before .before .before .args .a) (c .before .before .before .before .before .before .before .before .before .args .b)
+
+pub add-products-spec : {M : Type 1} → statement M
+add-products-spec = tie.close (tie.spec returns)

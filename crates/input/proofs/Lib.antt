@@ -1,0 +1,6 @@
+pub mod JudgeLaws
+pub mod FirstUnnamed
+mod Limits
+mod EyeValidity
+pub mod InputLaws
+pub mod Validity

@@ -1,0 +1,135 @@
+-- What refine, measure and open are given, and its tests: rows 1 to 11 of document 01's table of refusals, in order.
+-- 'Refine (buffers 1, 2, 3, 8), open (1 to 5, 8) and measure (none) test 1 to 11 in number order, each what it is given.'
+use Prim.Native.Nat.{ℕ, suc, _*_, _/_, _%_}
+use mathlib.Core.Bool.{Bool, not, cond, _&&_, _||_}
+use mathlib.Core.List.{List, [], _∷_, _++_}
+use lib.Dec.{leb, ltb, eqb}
+use lib.ListN.{length}
+use Rattle.base.specs.declared.Status.{Status}
+use Rattle.base.specs.Refusal.{Test, test, judge}
+use Rattle.eye.specs.declared.DbsParams.{DbsParams}
+use Rattle.eye.specs.declared.Eye.{Eye}
+use Rattle.eye.specs.Constants.{alphaLum, alphaChroma}
+use Rattle.eye.specs.Eye.{eye, eyeTests, kernelRadius}
+
+-- Document 01's plane, palette, indices, pin mask and eye record. Measuring is given no mask: an empty one.
+pub record Input : Type 0 where
+  pub width : ℕ
+  pub height : ℕ
+  pub pixels : List ℕ
+  pub palette : List ℕ
+  pub indices : List ℕ
+  pub pinned : List ℕ
+  pub params : DbsParams
+
+abbrev pub input : ℕ → ℕ → List ℕ → List ℕ → List ℕ → List ℕ → DbsParams → Input
+input width height pixels palette indices pinned params =
+    record { width = width; height = height; pixels = pixels; palette = palette; indices = indices; pinned = pinned; params = params }
+
+-- 'n = w·h'
+unfoldable pub pixelCount : Input → ℕ
+pixelCount I = I .height * I .width
+
+-- 'Palette: 3 bytes for each of 1–256 inks', where row 5 lets the palette pass
+unfoldable pub inkCount : Input → ℕ
+inkCount I = length (I .palette) / 3
+
+-- the judgement of one list of tests and then another: the first refusal, if there is one
+abbrev pub firstRefusal : Status → Status → Status
+firstRefusal s t = cond (eqb (s .number) 0) t s
+
+-- ---- rows 1 to 9: an image, its halftone and the eye
+
+abbrev pub within : ℕ → ℕ → ℕ → Bool
+within low x high = leb low x && leb x high
+
+-- 'width w 1–4,096, height h 0–4,096'
+abbrev pub sizeFits : ℕ → ℕ → Bool
+sizeFits w h = within 1 w 4096 && leb h 4096
+
+-- 'Pin mask: no bytes (nothing pinned), or n bytes'
+abbrev pub maskFits : ℕ → ℕ → Bool
+maskFits pinned n = eqb pinned 0 || eqb pinned n
+
+-- '3 × (1–256) bytes'
+abbrev pub paletteFits : ℕ → Bool
+paletteFits palette = eqb (palette % 3) 0 && within 1 (palette / 3) 256
+
+-- the place of the first index that names none of n inks, or the length
+unfoldable pub firstUnnamed : ℕ → List ℕ → ℕ
+firstUnnamed n [] = 0
+firstUnnamed n (k ∷ ks) = let later = firstUnnamed n ks in cond (ltb k n) (suc later) 0
+
+-- rows 1 to 4, of a size and the lengths of the pixels, the indices and the mask
+unfoldable pub imageTests : ℕ → ℕ → ℕ → ℕ → ℕ → List Test
+imageTests w h pixels indices pinned =
+    test (not (sizeFits w h)) 1 0
+    ∷ test (not (eqb pixels (3 * (h * w)))) 2 0
+    ∷ test (not (eqb indices (h * w))) 3 0
+    ∷ test (not (maskFits pinned (h * w))) 4 0
+    ∷ []
+
+-- rows 5 and 6, of the palette's length and the indices: pinned pixels have an ink too
+unfoldable pub inkTests : ℕ → List ℕ → List Test
+inkTests palette indices =
+    let place = firstUnnamed (palette / 3) indices in
+    test (not (paletteFits palette)) 5 0
+    ∷ test (ltb place (length indices)) 6 place
+    ∷ []
+
+-- rows 1 to 9
+unfoldable pub inputTests : Input → List Test
+inputTests I =
+    imageTests (I .width) (I .height) (length (I .pixels)) (length (I .indices)) (length (I .pinned))
+    ++ (inkTests (length (I .palette)) (I .indices)
+    ++ eyeTests (I .params))
+
+-- the answer to an eye's tests and to these: 0, 0 and both kernel radii, or the refusal and zeros
+abbrev pub answered : Status → DbsParams → Eye
+answered s p = cond (eqb (s .number) 0) (eye s (kernelRadius alphaLum p) (kernelRadius alphaChroma p)) (eye s 0 0)
+
+unfoldable pub checkedOf : Input → Eye
+checkedOf I = answered (judge (inputTests I)) (I .params)
+
+-- ---- rows 10 and 11: a run and the buffers lent to it
+
+-- row 10
+abbrev pub passesTest : ℕ → Test
+passesTest passes = test (ltb 1000 passes) 10 0
+
+-- a line of row 11: a buffer, its length, and the length that it is to have
+abbrev pub lengthTest : ℕ → ℕ → ℕ → Test
+lengthTest buffer len wanted = test (not (eqb len wanted)) 11 buffer
+
+-- Rows 10 and 11 as far as refine and open share them, of the passes allowed and the lengths of `cpe` (document 01's field), `cpp` (its
+-- kernel store) and `accepted_per_pass` (its counts). How long `cpe` is to be is an argument here, `cpeWanted`.
+unfoldable pub runTests : ℕ → ℕ → ℕ → ℕ → ℕ → List Test
+runTests passes cpeWanted cpe cpp counts =
+    passesTest passes
+    ∷ lengthTest 1 cpe cpeWanted
+    ∷ lengthTest 2 cpp 8450
+    ∷ lengthTest 3 counts passes
+    ∷ []
+
+-- rows 10 and 11 of refine: the ink values besides
+unfoldable pub refineRunTests : ℕ → ℕ → ℕ → ℕ → ℕ → ℕ → ℕ → List Test
+refineRunTests passes cpeWanted inksWanted cpe cpp counts inks = runTests passes cpeWanted cpe cpp counts ++ (lengthTest 8 inks inksWanted ∷ [])
+
+-- rows 10 and 11 of open: tile states (document 01's ledger) and deltas besides, one for each tile; how many tiles an image has is the
+-- crate tiling's to say
+unfoldable pub openRunTests : ℕ → ℕ → ℕ → ℕ → ℕ → ℕ → ℕ → ℕ → ℕ → ℕ → List Test
+openRunTests passes cpeWanted inksWanted tiles cpe cpp counts states deltas inks =
+    runTests passes cpeWanted cpe cpp counts
+    ++ (lengthTest 4 states tiles
+    ∷ lengthTest 5 deltas tiles
+    ∷ lengthTest 8 inks inksWanted
+    ∷ [])
+
+-- ---- all rows of a call: 'Field: 3n f64', 'ink values (3 f64 per ink)'
+
+unfoldable pub refineTests : Input → ℕ → ℕ → ℕ → ℕ → ℕ → List Test
+refineTests I passes cpe cpp counts inks = inputTests I ++ refineRunTests passes (3 * pixelCount I) (3 * inkCount I) cpe cpp counts inks
+
+unfoldable pub openTests : Input → ℕ → ℕ → ℕ → ℕ → ℕ → ℕ → ℕ → ℕ → List Test
+openTests I passes tiles cpe cpp counts states deltas inks =
+    inputTests I ++ openRunTests passes (3 * pixelCount I) (3 * inkCount I) tiles cpe cpp counts states deltas inks

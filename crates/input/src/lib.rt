@@ -1,0 +1,240 @@
+// The tests of what refine, measure and open are given: refusals 1 to 11 in order, as the lists of
+// specs/Input.antt have them. Every function takes any numbers and slices of any length: the size is
+// tested before anything is multiplied. An input is accepted exactly where it is valid
+// (specs/Valid.antt, proofs/Validity.antt).
+use base::Status;
+use eye::DbsParams;
+use eye::Eye;
+ghost use mathlib.Core.Path.{_≡_};
+ghost use mathlib.Core.List.{[], _∷_};
+ghost use Rattle.base.specs.Refusal.{test, judge};
+ghost use Rattle.eye.specs.Eye.{eye};
+ghost use Rattle.input.specs.Input.{within, sizeFits, maskFits, paletteFits, firstUnnamed, firstRefusal, imageTests, inkTests, input, checkedOf, lengthTest, runTests, refineRunTests, openRunTests};
+
+// The largest width and height.
+const MAX_SIDE: u64 = 4096;
+
+const MAX_INKS: u64 = 256;
+
+const MAX_PASSES: u64 = 1000;
+
+// Values of both kernels: 2 x 65 x 65.
+const CPP_LEN: usize = 8450;
+
+// One test.
+fn refuse_if(fails: bool, number: u64, place: u64) -> Status
+    ensures { λ r. ⌜ r ≡ judge (test fails number place ∷ []) ⌝ }
+{
+    if fails {
+        return Status { number, place };
+    }
+    Status {
+        number: 0,
+        place: 0,
+    }
+}
+
+// Of two judgements the first that refuses.
+fn first_refusal(first: Status, second: Status) -> Status
+    ensures { λ r. ⌜ r ≡ firstRefusal first second ⌝ }
+{
+    if first.number == 0 {
+        return second;
+    }
+    first
+}
+
+fn is_within(low: u64, x: u64, high: u64) -> bool
+    ensures { λ r. ⌜ r ≡ within low x high ⌝ }
+{
+    low <= x && x <= high
+}
+
+fn is_size(width: u64, height: u64) -> bool
+    ensures { λ r. ⌜ r ≡ sizeFits width height ⌝ }
+{
+    is_within(1, width, MAX_SIDE) && height <= MAX_SIDE
+}
+
+fn is_mask(pinned_len: usize, n: usize) -> bool
+    ensures { λ r. ⌜ r ≡ maskFits «pinned_len» n ⌝ }
+{
+    pinned_len == 0 || pinned_len == n
+}
+
+fn is_palette(palette_len: usize) -> bool
+    ensures { λ r. ⌜ r ≡ paletteFits «palette_len» ⌝ }
+{
+    palette_len % 3 == 0 && is_within(1, palette_len as u64 / 3, MAX_INKS)
+}
+
+// Refusals 1 to 4.
+fn check_image(
+    width: u64,
+    height: u64,
+    pixels_len: usize,
+    indices_len: usize,
+    pinned_len: usize,
+) -> Status
+    ensures { λ r. ⌜ r ≡ judge (imageTests width height «pixels_len» «indices_len» «pinned_len») ⌝ }
+{
+    if !is_size(width, height) {
+        return Status {
+            number: 1,
+            place: 0,
+        };
+    }
+    let n = height as usize * width as usize;
+    first_refusal(
+        refuse_if(pixels_len != 3 * n, 2, 0),
+        first_refusal(
+            refuse_if(indices_len != n, 3, 0),
+            refuse_if(!is_mask(pinned_len, n), 4, 0),
+        ),
+    )
+}
+
+fn wide(b: u8) -> usize
+    ensures { λ r. ⌜ r ≡ b ⌝ }
+{
+    b as usize
+}
+
+// The place of the first index that names none of n inks, or the length.
+fn first_unnamed(indices: &[u8], n: usize) -> usize
+    ensures { λ r. ⌜ r ≡ firstUnnamed n (now (indices .entry)) ⌝ }
+{
+    let mut i = 0;
+    while i < indices.len() {
+        if wide(indices[i]) >= n {
+            return i;
+        }
+        i += 1;
+    }
+    i
+}
+
+// Refusals 5 and 6.
+fn check_inks(palette_len: usize, indices: &[u8]) -> Status
+    ensures { λ r. ⌜ r ≡ judge (inkTests «palette_len» (now (indices .entry))) ⌝ }
+{
+    let inks = refuse_if(!is_palette(palette_len), 5, 0);
+    let place = first_unnamed(indices, palette_len / 3);
+    let index = refuse_if(place < indices.len(), 6, place as u64);
+    first_refusal(inks, index)
+}
+
+// A refusal, with no radii.
+fn refused(status: Status) -> Eye
+    ensures { λ r. ⌜ r ≡ eye status 0 0 ⌝ }
+{
+    Eye {
+        status,
+        lum_radius: 0,
+        chroma_radius: 0,
+    }
+}
+
+// Refusals 1 to 9, and both kernel radii where none applies. Measuring lends an empty mask.
+pub fn check_input(
+    width: u64,
+    height: u64,
+    pixels: &[u8],
+    palette: &[u8],
+    indices: &[u8],
+    pinned: &[u8],
+    params: DbsParams,
+) -> Eye
+    ensures { λ r. ⌜ r ≡ checkedOf (input width height (now (pixels .entry)) (now (palette .entry)) (now (indices .entry)) (now (pinned .entry)) params) ⌝ }
+{
+    let image = check_image(width, height, pixels.len(), indices.len(), pinned.len());
+    if image.number != 0 {
+        return refused(image);
+    }
+    let inks = check_inks(palette.len(), indices);
+    if inks.number != 0 {
+        return refused(inks);
+    }
+    params.validate()
+}
+
+// A line of refusal 11.
+fn check_length(buffer: u64, len: usize, wanted: usize) -> Status
+    ensures { λ r. ⌜ r ≡ judge (lengthTest buffer len wanted ∷ []) ⌝ }
+{
+    refuse_if(len != wanted, 11, buffer)
+}
+
+// Refusal 10, and 11 of buffers 1 to 3.
+fn check_run(
+    max_passes: u64,
+    cpe_wanted: usize,
+    cpe_len: usize,
+    cpp_len: usize,
+    accepted_per_pass_len: usize,
+) -> Status
+    ensures { λ r. ⌜ r ≡ judge (runTests «max_passes» «cpe_wanted» «cpe_len» «cpp_len» «accepted_per_pass_len») ⌝ }
+{
+    first_refusal(
+        refuse_if(max_passes > MAX_PASSES, 10, 0),
+        first_refusal(
+            check_length(1, cpe_len, cpe_wanted),
+            first_refusal(
+                check_length(2, cpp_len, CPP_LEN),
+                check_length(3, accepted_per_pass_len, max_passes as usize),
+            ),
+        ),
+    )
+}
+
+// Refusals 10 and 11 of refine, after `check_input`. `cpe_wanted` and `inks_wanted` are the lengths
+// that `cpe` and `inks` are to have: 3 for each pixel and 3 for each ink.
+pub fn check_refine(
+    max_passes: u64,
+    cpe_wanted: usize,
+    inks_wanted: usize,
+    cpe_len: usize,
+    cpp_len: usize,
+    accepted_per_pass_len: usize,
+    inks_len: usize,
+) -> Status
+    ensures { λ r. ⌜ r ≡ judge (refineRunTests «max_passes» «cpe_wanted» «inks_wanted» «cpe_len» «cpp_len» «accepted_per_pass_len» «inks_len») ⌝ }
+{
+    let run = check_run(
+        max_passes,
+        cpe_wanted,
+        cpe_len,
+        cpp_len,
+        accepted_per_pass_len,
+    );
+    let inks = check_length(8, inks_len, inks_wanted);
+    first_refusal(run, inks)
+}
+
+// Refusals 10 and 11 of open, after `check_input`, for an image of so many tiles.
+pub fn check_open(
+    max_passes: u64,
+    cpe_wanted: usize,
+    inks_wanted: usize,
+    tiles: usize,
+    cpe_len: usize,
+    cpp_len: usize,
+    accepted_per_pass_len: usize,
+    tile_states_len: usize,
+    deltas_len: usize,
+    inks_len: usize,
+) -> Status
+    ensures { λ r. ⌜ r ≡ judge (openRunTests «max_passes» «cpe_wanted» «inks_wanted» tiles «cpe_len» «cpp_len» «accepted_per_pass_len» «tile_states_len» «deltas_len» «inks_len») ⌝ }
+{
+    let run = check_run(
+        max_passes,
+        cpe_wanted,
+        cpe_len,
+        cpp_len,
+        accepted_per_pass_len,
+    );
+    let tile_states = check_length(4, tile_states_len, tiles);
+    let deltas = check_length(5, deltas_len, tiles);
+    let inks = check_length(8, inks_len, inks_wanted);
+    first_refusal(run, first_refusal(tile_states, first_refusal(deltas, inks)))
+}

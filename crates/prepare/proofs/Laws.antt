@@ -1,0 +1,116 @@
+-- What an accepted input gives: an eye that is accepted, a tiling within the limits, a scene that fits, and slices that the walk can start from. Assumes nothing.
+use Prim.Native.Nat.{ℕ, _*_, _%_}
+use native.Mathlib.Omega.{arith}
+use native.Mathlib.Nat.{mul-mod-right}
+use native.Mathlib.Numerals.{unary-clauses}
+use mathlib.Core.Path.{_≡_, sym, ap, _∙_}
+use mathlib.Core.List.{List}
+use lib.ListN.{length}
+use lib.Ieee.{Float}
+use Rattle.base.specs.Grid.{area, width, height}
+use Rattle.base.specs.Refusal.{judge, accepted}
+use Rattle.base.proofs.RefusalLaws.{accepted-of, passes-of}
+use Rattle.base.proofs.TableLaws.{length-table}
+use Rattle.tiling.specs.declared.Tiling.{Tiling}
+use Rattle.tiling.specs.Tiling.{Limits, image}
+use Rattle.color.specs.Inks.{inkValues}
+use Rattle.color.proofs.InkLaws.{length-inks}
+use Rattle.eye.specs.Eye.{eyeTests}
+use Rattle.eye.proofs.EyeLaws.{radii-fit}
+use Rattle.kernel.specs.Kernel.{eyeKernels}
+use Rattle.kernel.proofs.KernelLaws.{length-eyeKernels}
+use Rattle.error.specs.Error.{Scene, scene, SceneFits, FieldFits, fieldOf, initialError}
+use Rattle.input.specs.Input.{Input, pixelCount, inkCount, inputTests, imageTests, inkTests}
+use Rattle.input.specs.Valid.{Valid}
+use Rattle.input.proofs.InputLaws.{input-numbered}
+use Rattle.input.proofs.JudgeLaws.{passes-append}
+use Rattle.input.proofs.Validity.{valid-iff}
+use Rattle.search.specs.Shared.{Ready}
+use Rattle.prepare.specs.Prepare.{tilingOf, inksOf, cppOf, sceneOf, cpeOf, errorOf, sharedOf}
+
+-- all pixels of the image
+pub image-area : (T : Tiling) → area (image T) ≡ T .height * T .width
+unfolding area width height image
+image-area T = simp unary-clauses
+
+module _ (I : Input) (ok : judge (inputTests I) ≡ accepted) where
+  pub valid : Valid I
+  valid = valid-iff I .0 ok
+
+  pub eye-ok : judge (eyeTests (I .params)) ≡ accepted
+  unfolding inputTests
+  eye-ok =
+      let p = passes-of (inputTests I) (input-numbered I) ok in
+      let q = passes-append (imageTests (I .width) (I .height) (length (I .pixels)) (length (I .indices)) (length (I .pinned))) _ .0 p .1 in
+      accepted-of (eyeTests (I .params)) (passes-append (inkTests (length (I .palette)) (I .indices)) (eyeTests (I .params)) .0 q .1)
+
+  pub palette-whole : length (I .palette) % 3 ≡ 0
+  palette-whole = ap (λ (n : ℕ). n % 3) (valid .palette-length) ∙ mul-mod-right 3 (inkCount I)
+
+  pub limits : Limits (tilingOf I)
+  unfolding tilingOf
+  limits =
+      let r = radii-fit (I .params) eye-ok in
+      record { wide = valid .width-least; width-limit = valid .width-most; height-limit = valid .height-most; lum-limit = r .0 .high; chroma-limit = r .1 .high }
+
+  pub inks-length : length (inksOf I) ≡ 3 * inkCount I
+  unfolding inksOf
+  inks-length = length-inks (I .palette) ∙ valid .palette-length
+
+  pub scene-fits : SceneFits (tilingOf I .width) (tilingOf I .height) (sceneOf I)
+  unfolding tilingOf sceneOf pixelCount
+  scene-fits = record {
+    wide = valid .width-least;
+    width-limit = valid .width-most;
+    height-limit = valid .height-most;
+    pixels = valid .pixels-length;
+    indices = valid .indices-length;
+    mask = valid .mask-length;
+    named = λ i h. omega (arith, valid .named i (omega (arith, valid .indices-length)), inks-length);
+  }
+
+  pub cpp-length : (cpp : List Float) → length cpp ≡ 8450 → length (cppOf I cpp) ≡ 8450
+  unfolding cppOf
+  cpp-length cpp e = length-eyeKernels (I .params) cpp eye-ok e
+
+  -- the walk can start from the field and the starting indices
+  pub start-ready : (cpp : List Float) → length cpp ≡ 8450 → Ready (sharedOf I cpp) (image (tilingOf I)) (length (cpeOf I cpp)) (I .indices)
+  unfolding sharedOf tilingOf cpeOf fieldOf image pixelCount
+  start-ready cpp e =
+      let r = radii-fit (I .params) eye-ok in
+      record {
+        limits = limits;
+        lum-least = omega (arith, r .0 .low);
+        chroma-least = omega (arith, r .1 .low);
+        within = record { left = omega arith; right = omega arith; top = omega arith; bottom = omega arith };
+        cpe = length-table (3 * (I .height * I .width)) _ ∙ ap (λ (n : ℕ). 3 * n) (sym (image-area (tilingOf I)));
+        indices-room = valid .indices-length ∙ sym (image-area (tilingOf I));
+        mask = valid .mask-length;
+        inks-room = inks-length;
+        few-inks = valid .inks-most;
+        cpp-room = cpp-length cpp e;
+        named = valid .named;
+      }
+
+pub length-field : (T : Tiling) (G : Scene) (cpp : List Float) → length (fieldOf T G cpp) ≡ 3 * (T .height * T .width)
+unfolding fieldOf
+length-field T G cpp = length-table _ _
+
+-- ---- what the code makes, step by step, is what the definitions say
+
+module _ (I : Input) (T : Tiling) (inks cpp₀ cpp : List Float) (t : T ≡ tilingOf I) (i : inks ≡ inkValues (I .palette)) (k : cpp ≡ eyeKernels (I .params) cpp₀) where
+  pub field-is : fieldOf T (scene (I .pixels) (I .indices) (I .pinned) inks) cpp ≡ cpeOf I cpp₀
+  unfolding cpeOf sceneOf inksOf cppOf
+  field-is = rw (t, i, k)
+
+  pub error-is : (cpe : List Float) → cpe ≡ cpeOf I cpp₀ → initialError T (scene (I .pixels) (I .indices) (I .pinned) inks) cpe ≡ errorOf I cpp₀
+  unfolding errorOf sceneOf inksOf
+  error-is cpe e = rw (t, i, e)
+
+  pub scene-fits-as : judge (inputTests I) ≡ accepted → SceneFits (T .width) (T .height) (scene (I .pixels) (I .indices) (I .pinned) inks)
+  unfolding sceneOf inksOf
+  scene-fits-as ok = rw (t, i) (scene-fits I ok)
+
+  pub field-fits : judge (inputTests I) ≡ accepted → length cpp₀ ≡ 8450 → FieldFits T (scene (I .pixels) (I .indices) (I .pinned) inks) cpp
+  unfolding cppOf
+  field-fits ok e = record { limits = rw t (limits I ok); scene = scene-fits-as ok; store = rw k (cpp-length I ok cpp₀ e) }

@@ -1,0 +1,67 @@
+-- `prepare::prepare_with` meets its contract: each step makes what the next one reads, as the definitions say. Assumes nothing.
+use mathlib.Core.Path.{_≡_, sym, ap, _∙_}
+use Prim.Native.Nat.{_*_}
+use lib.ListN.{length}
+use Rattle.input.specs.Input.{Input, input, pixelCount}
+use Rattle.prepare.specs.Prepare.{inksOf, cppOf}
+use Rattle.prepare.proofs.Laws.{valid, eye-ok, palette-whole, field-is, error-is, scene-fits-as, field-fits, length-field}
+use borrow.Author.Needs.{needs}
+use Rattle.prepare.proofs.prepare_with.Statement.{statement}
+use Rattle.prepare.proofs.prepare_with.Tie as tie
+
+-- the input
+abbrev I : tie.Start → Input
+I s = input (s .args .t .width) (s .args .t .height) (s .args .pixels .now) (s .args .palette .now) (s .args .indices .now) (s .args .pinned .now) (s .args .params)
+
+cpe-room : (s : tie.Start) → length (s .args .cpe .now) ≡ 3 * (s .args .t .height * s .args .t .width)
+unfolding pixelCount
+cpe-room s = s .pre .1 .cpe-length
+
+palette-to-inks-requires : tie.Need-palette-to-inks-requires
+palette-to-inks-requires c κs =
+    let a = c .before .before .before .before .before .before .before .before .pre .1 in
+    (c .before .before .before .before .before .before .before .before .pre .0, (palette-whole (I (c .before .before .before .before .before .before .before .before)) (a .passes), a .inks-length ∙ sym (valid (I (c .before .before .before .before .before .before .before .before)) (a .passes) .palette-length)))
+
+eye-kernels-requires : tie.Need-eye-kernels-requires
+eye-kernels-requires c κs = (eye-ok (I (c .before .before .before .before .before .before .before .before .before .before .before .before)) (c .before .before .before .before .before .before .before .before .before .before .before .before .pre .1 .passes), c .before .before .before .before .before .before .before .before .before .before .before .before .pre .1 .cpp-length)
+
+initial-field-requires : tie.Need-initial-field-requires
+initial-field-requires c κs =
+    let a = c .before .before .before .before .before .before .before .before .before .before .before .before .before .before .before .before .before .before .pre .1 in
+    (c .before .before .before .before .before .before .before .before .before .before .before .before .before .before .before .before .before .before .pre .0, (field-fits (I (c .before .before .before .before .before .before .before .before .before .before .before .before .before .before .before .before .before .before)) (c .before .before .before .before .before .before .before .before .before .before .before .before .before .before .before .before .before .before .args .t) _ (c .before .before .before .before .before .before .before .before .before .before .before .before .before .before .before .before .before .before .args .cpp .now) _ (a .tiling) (c .before .before .before .before .before .before .before .before .before .palette-to-inks .ensures) (c .before .before .before .before .before .eye-kernels .ensures) (a .passes) (a .cpp-length), cpe-room (c .before .before .before .before .before .before .before .before .before .before .before .before .before .before .before .before .before .before)))
+
+initial-error-requires : tie.Need-initial-error-requires
+initial-error-requires c κs =
+    let a = c .before .before .before .before .before .before .before .before .before .before .before .before .before .before .before .before .before .before .before .before .before .before .before .pre .1 in
+    (c .before .before .before .before .before .before .before .before .before .before .before .before .before .before .before .before .before .before .before .before .before .before .before .pre .0, (scene-fits-as (I (c .before .before .before .before .before .before .before .before .before .before .before .before .before .before .before .before .before .before .before .before .before .before .before)) (c .before .before .before .before .before .before .before .before .before .before .before .before .before .before .before .before .before .before .before .before .before .before .before .args .t) _ (c .before .before .before .before .before .before .before .before .before .before .before .before .before .before .before .before .before .before .before .before .before .before .before .args .cpp .now) _ (a .tiling) (c .before .before .before .before .before .before .before .before .before .before .before .before .before .before .palette-to-inks .ensures) (c .before .before .before .before .before .before .before .before .before .before .eye-kernels .ensures) (a .passes), ap length (c .before .before .before .before .initial-field .ensures) ∙ length-field _ _ _))
+
+same-length : tie.Need-same-length
+same-length c = search needs
+
+same-length-2 : tie.Need-same-length-2
+same-length-2 c = search needs
+
+same-length-3 : tie.Need-same-length-3
+same-length-3 c = search needs
+
+returns : tie.Need-returns
+unfolding inksOf cppOf
+returns c =
+    let a = c .before .before .before .before .before .before .before .before .before .before .before .before .before .before .before .before .before .before .before .before .before .before .before .before .pre .1 in
+    let i = c .before .before .before .before .before .before .before .before .before .before .before .before .before .before .before .palette-to-inks .ensures in
+    let k = c .before .before .before .before .before .before .before .before .before .before .before .eye-kernels .ensures in
+    let f = c .before .before .before .before .before .initial-field .ensures ∙ field-is (I (c .before .before .before .before .before .before .before .before .before .before .before .before .before .before .before .before .before .before .before .before .before .before .before .before)) (c .before .before .before .before .before .before .before .before .before .before .before .before .before .before .before .before .before .before .before .before .before .before .before .before .args .t) _ (c .before .before .before .before .before .before .before .before .before .before .before .before .before .before .before .before .before .before .before .before .before .before .before .before .args .cpp .now) _ (a .tiling) i k in
+    record { inks-is = i; cpp-is = k; cpe-is = f; error-is = c .initial-error .ensures ∙ error-is (I (c .before .before .before .before .before .before .before .before .before .before .before .before .before .before .before .before .before .before .before .before .before .before .before .before)) (c .before .before .before .before .before .before .before .before .before .before .before .before .before .before .before .before .before .before .before .before .before .before .before .before .args .t) _ (c .before .before .before .before .before .before .before .before .before .before .before .before .before .before .before .before .before .before .before .before .before .before .before .before .args .cpp .now) _ (a .tiling) i k _ f }
+
+pub prepare-with-spec : {M : Type 1} → statement M
+prepare-with-spec =
+    tie.close
+    (tie.spec
+    palette-to-inks-requires
+    eye-kernels-requires
+    initial-field-requires
+    initial-error-requires
+    same-length
+    same-length-2
+    same-length-3
+    returns)

@@ -1,0 +1,62 @@
+// Everything up to the walk: the first half of `dbs_refine` of dbs.rs. Ink values, kernels, `cpe` and
+// the initial error of an accepted input, into lent buffers.
+use eye::DbsParams;
+use tiling::Tiling;
+ghost use mathlib.Core.Path.{_≡_};
+ghost use Prim.Native.Nat.{_*_};
+ghost use lib.ListN.{length};
+ghost use Rattle.color.specs.Lut.{srgbToLinear};
+ghost use Rattle.input.specs.Input.{input};
+ghost use Rattle.prepare.specs.Prepare.{Accepts, Prepared};
+
+fn prepare_with(
+    lut: &[u64; 256],
+    pixels: &[u8],
+    palette: &[u8],
+    indices: &[u8],
+    pinned: &[u8],
+    params: DbsParams,
+    t: Tiling,
+    inks: &mut [f64],
+    cpp: &mut [f64],
+    cpe: &mut [f64],
+) -> f64
+    requires { ⌜ now lut ≡ srgbToLinear ⌝ }
+    requires { ⌜ Accepts (input (t .width) (t .height) (now pixels) (now palette) (now indices) (now pinned) params) t (length (now inks)) (length (now cpp)) (length (now cpe)) ⌝ }
+    ensures { λ r. ⌜ Prepared (input (t .width) (t .height) (now (pixels .entry)) (now (palette .entry)) (now (indices .entry)) (now (pinned .entry)) params) (now (cpp .entry)) (now (inks .exit)) (now (cpp .exit)) (now (cpe .exit)) r ⌝ }
+{
+    color::palette_to_inks(lut, palette, inks);
+    kernel::eye_kernels(params, cpp);
+    error::initial_field(lut, pixels, indices, pinned, inks, cpp, t, cpe);
+    error::initial_error(lut, pixels, indices, pinned, inks, cpe, t)
+}
+
+// Ink values, kernels and `cpe` into the lent buffers; the answer is the initial error.
+pub fn prepare(
+    pixels: &[u8],
+    palette: &[u8],
+    indices: &[u8],
+    pinned: &[u8],
+    params: DbsParams,
+    t: Tiling,
+    inks: &mut [f64],
+    cpp: &mut [f64],
+    cpe: &mut [f64],
+) -> f64
+    requires { ⌜ Accepts (input (t .width) (t .height) (now pixels) (now palette) (now indices) (now pinned) params) t (length (now inks)) (length (now cpp)) (length (now cpe)) ⌝ }
+    ensures { λ r. ⌜ Prepared (input (t .width) (t .height) (now (pixels .entry)) (now (palette .entry)) (now (indices .entry)) (now (pinned .entry)) params) (now (cpp .entry)) (now (inks .exit)) (now (cpp .exit)) (now (cpe .exit)) r ⌝ }
+{
+    let lut = color::srgb_to_linear_lut();
+    prepare_with(
+        &lut,
+        pixels,
+        palette,
+        indices,
+        pinned,
+        params,
+        t,
+        inks,
+        cpp,
+        cpe,
+    )
+}

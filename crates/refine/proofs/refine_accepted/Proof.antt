@@ -1,0 +1,49 @@
+-- `refine::refine_accepted` meets its contract: what was prepared is what the walk starts from. Assumes nothing.
+use Rattle.input.specs.Input.{Input, input}
+use Rattle.refine.proofs.Laws.{ready-as, ends-as}
+use borrow.Author.Needs.{needs}
+use Rattle.refine.proofs.refine_accepted.Statement.{statement}
+use Rattle.refine.proofs.refine_accepted.Tie as tie
+
+-- the input
+abbrev I : tie.Start → Input
+I s = input (s .args .t .width) (s .args .t .height) (s .args .pixels .now) (s .args .palette .now) (s .args .indices .now) (s .args .pinned .now) (s .args .params)
+
+prepare-requires : tie.Need-prepare-requires
+prepare-requires c κs = search needs
+
+refine-passes-requires : tie.Need-refine-passes-requires
+refine-passes-requires c κs =
+    let a = c .before .before .before .before .before .before .before .before .before .before .before .before .before .before .before .before .before .before .before .before .before .before .before .before .pre in
+    ready-as (I (c .before .before .before .before .before .before .before .before .before .before .before .before .before .before .before .before .before .before .before .before .before .before .before .before)) (c .before .before .before .before .before .before .before .before .before .before .before .before .before .before .before .before .before .before .before .before .before .before .before .before .args .t) _ (c .before .before .before .before .before .before .before .before .before .before .before .before .before .before .before .before .before .before .before .before .before .before .before .before .args .cpp .now) _ _ _ (a .tiling) (c .before .before .before .before .before .before .before .before .before .before .before .prepare .ensures) (a .passes) (a .cpp-length)
+
+same-length : tie.Need-same-length
+same-length c = search needs
+
+same-length-2 : tie.Need-same-length-2
+same-length-2 c = search needs
+
+same-length-3 : tie.Need-same-length-3
+same-length-3 c = search needs
+
+same-length-4 : tie.Need-same-length-4
+same-length-4 c = search needs
+
+same-length-5 : tie.Need-same-length-5
+same-length-5 c = search needs
+
+returns : tie.Need-returns
+returns c = ends-as (I (c .before .before .before .before .before .before .before .before .before .before .before .before .before .before .before .before .before .before .before .before .before .before .before .before .before .before .before .before .before .before .before)) (c .before .before .before .before .before .before .before .before .before .before .before .before .before .before .before .before .before .before .before .before .before .before .before .before .before .before .before .before .before .before .before .args .t) _ (c .before .before .before .before .before .before .before .before .before .before .before .before .before .before .before .before .before .before .before .before .before .before .before .before .before .before .before .before .before .before .before .args .cpp .now) _ _ _ (c .before .before .before .before .before .before .before .before .before .before .before .before .before .before .before .before .before .before .before .before .before .before .before .before .before .before .before .before .before .before .before .pre .tiling) (c .before .before .before .before .before .before .before .before .before .before .before .before .before .before .before .before .before .before .prepare .ensures) (c .before .before .before .before .before .before .before .before .before .before .before .before .before .before .before .before .before .before .before .before .before .before .before .before .before .before .before .before .before .before .before .args .accepted-per-pass .now) _ _ _ _ (c .before .before .before .before .before .before .refine-passes .ensures)
+
+pub refine-accepted-spec : {M : Type 1} → statement M
+refine-accepted-spec =
+    tie.close
+    (tie.spec
+    prepare-requires
+    refine-passes-requires
+    same-length
+    same-length-2
+    same-length-3
+    same-length-4
+    same-length-5
+    returns)

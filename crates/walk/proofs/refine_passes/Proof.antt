@@ -1,0 +1,97 @@
+-- `walk::refine_passes` meets its contract: between two passes the slices and the counts are those of the walk (`Rests`). Assumes nothing.
+use mathlib.Core.Path.{_≡_, refl, sym, _∙_, subst}
+use Prim.Native.Nat.{_-_, _≤_, _<_}
+use native.Mathlib.Omega.{arith}
+use lib.ListN.{length}
+use borrow.Author.Needs.{needs}
+use Rattle.search.specs.Shared.{Shared, shared}
+use Rattle.walk.specs.Walk.{Refined, refined}
+use Rattle.walk.proofs.Laws.{SoundImage, ready-image}
+use Rattle.walk.proofs.Passes.{run0, Rests, rests-none, rests-more, rests-ended, rests-all, pass-sound}
+use Rattle.walk.proofs.refine_passes.Statement.{statement}
+use Rattle.walk.proofs.refine_passes.Tie as tie
+
+abbrev Inv-loop : tie.InvT-loop
+Inv-loop cpe₀ indices₀ pinned inks cpp count t accepted-per-pass₀ error e₀ pass₀ cpe indices accepted-per-pass e pass =
+    (pass ≤ length accepted-per-pass₀) × (length accepted-per-pass ≡ length accepted-per-pass₀) × Rests (shared t count pinned inks cpp) cpe₀ indices₀ accepted-per-pass₀ error pass cpe indices accepted-per-pass e
+
+abbrev μ-loop : tie.MeasureT-loop
+μ-loop cpe₀ indices₀ pinned inks cpp count t accepted-per-pass₀ error e₀ pass₀ cpe indices accepted-per-pass e pass = length accepted-per-pass₀ - pass
+
+loop-holds : tie.Need-loop-holds Inv-loop μ-loop
+loop-holds c = (omega arith, refl, rests-none _ _ (c .before .before .before .before .before .before .pre))
+
+walk-pass-requires : tie.Need-walk-pass-requires Inv-loop μ-loop
+walk-pass-requires c κs = ready-image _ (c .before .before .before .before .before .before .before .before .before .before .pre) (c .before .before .before .loop .inv .2 .sound)
+
+cast-accepted-per-pass : tie.Need-cast-accepted-per-pass Inv-loop μ-loop
+cast-accepted-per-pass c = record { fits = c .before .before .before .before .walk-pass .ensures .1 }
+
+mul-accepted-per-pass : tie.Need-mul-accepted-per-pass Inv-loop μ-loop
+mul-accepted-per-pass c = search needs
+
+slice-write-accepted-per-pass : tie.Need-slice-write-accepted-per-pass Inv-loop μ-loop
+slice-write-accepted-per-pass c = search needs
+
+add-pass : tie.Need-add-pass Inv-loop μ-loop
+add-pass c = search needs
+
+same-length : tie.Need-same-length Inv-loop μ-loop
+same-length c = c .before .before .before .before .before .walk-pass .kept .0 ∙ c .before .before .before .before .before .before .before .before .before .loop .inv .2 .sound .cpe
+
+same-length-2 : tie.Need-same-length-2 Inv-loop μ-loop
+same-length-2 c = c .before .before .before .before .before .walk-pass .kept .1 .0 ∙ c .before .before .before .before .before .before .before .before .before .loop .inv .2 .sound .room ∙ sym (c .before .before .before .before .before .before .before .before .before .before .before .before .before .before .before .before .pre .indices-room)
+
+same-length-3 : tie.Need-same-length-3 Inv-loop μ-loop
+same-length-3 c = search needs
+
+returns : tie.Need-returns Inv-loop μ-loop
+returns c = rests-ended (c .before .before .before .before .before .before .before .before .before .loop .inv .2) (omega (arith, c .before .before .before .before .before .before .before .before .loop-test .taken, c .before .before .before .before .before .before .before .before .before .loop .inv .1)) _ _ _ (c .before .before .before .before .before .walk-pass .ensures .0) (c .if1 .taken)
+
+loop-less : tie.Need-loop-less Inv-loop μ-loop
+loop-less c = search needs
+
+loop-again : tie.Need-loop-again Inv-loop μ-loop
+loop-again c =
+    let a = c .before .before .before .before .before .before .before .before .before .before .before .before .before .before .before .before .args in
+    let S : Shared = shared (a .t) (a .count) (a .pinned .now) (a .inks .now) (a .cpp .now) in
+    let w = c .before .before .before .before .before .before .before .before .before .loop .inv .2 in
+    let h : c .before .before .before .before .before .before .before .before .before .loop .pass < length (a .accepted-per-pass .now) = omega (arith, c .before .before .before .before .before .before .before .before .loop-test .taken, c .before .before .before .before .before .before .before .before .before .loop .inv .1) in
+    let r : Refined = refined (c .before .before .before .before .before .before .before .before .before .loop .cpe) (c .before .before .before .before .before .before .before .before .before .loop .indices) (run0 (c .before .before .before .before .before .before .before .before .before .loop .e)) in
+    let s = subst (SoundImage S (a .indices .now) (length (a .cpe .now))) (sym (c .before .before .before .before .before .walk-pass .ensures .0)) (pass-sound S (a .indices .now) (length (a .cpe .now)) r (w .sound)) in
+    (omega (arith, h), search needs, rests-more w h _ _ _ (c .before .before .before .before .before .walk-pass .ensures .0) s (c .if1 .left))
+
+same-length-4 : tie.Need-same-length-4 Inv-loop μ-loop
+same-length-4 c = c .before .loop .inv .2 .sound .cpe
+
+same-length-5 : tie.Need-same-length-5 Inv-loop μ-loop
+same-length-5 c = c .before .loop .inv .2 .sound .room ∙ sym (c .before .before .before .before .before .before .before .before .pre .indices-room)
+
+same-length-6 : tie.Need-same-length-6 Inv-loop μ-loop
+same-length-6 c = search needs
+
+returns-2 : tie.Need-returns-2 Inv-loop μ-loop
+returns-2 c = rests-all (c .before .loop .inv .2) (omega (arith, c .before .loop .inv .0, c .before .loop .inv .1, c .loop-test .left))
+
+pub refine-passes-spec : {M : Type 1} → statement M
+refine-passes-spec =
+    tie.close
+    (tie.spec
+    Inv-loop
+    μ-loop
+    loop-holds
+    walk-pass-requires
+    cast-accepted-per-pass
+    mul-accepted-per-pass
+    slice-write-accepted-per-pass
+    add-pass
+    same-length
+    same-length-2
+    same-length-3
+    returns
+    loop-less
+    loop-again
+    same-length-4
+    same-length-5
+    same-length-6
+    returns-2)

@@ -1,0 +1,72 @@
+-- `walk::walk_pass` meets its contract: four phases, each of which leaves what the next asks for. Assumes nothing.
+use mathlib.Core.Path.{refl, _∙_}
+use native.Mathlib.Omega.{arith}
+use Rattle.tiling.proofs.Sizes.{sizes}
+use Rattle.walk.proofs.Laws.{between-none, ready-image}
+use Rattle.walk.proofs.Passes.{run0, phase-more}
+use borrow.Author.Needs.{needs}
+use Rattle.walk.proofs.walk_pass.Statement.{statement}
+use Rattle.walk.proofs.walk_pass.Tie as tie
+
+walk-tiles-requires : tie.Need-walk-tiles-requires
+walk-tiles-requires c κs = search needs
+
+walk-tiles-requires-2 : tie.Need-walk-tiles-requires-2
+walk-tiles-requires-2 c κs =
+    let a = c .before .before .before .before .before .before .before .before .before .before .before .before .before .before .args in
+    let r = c .before .before .before .before .before .before .before .before .before .before .before .before .before .before .pre in
+    let l = r .limits in
+    let b0 = between-none {run = run0 (a .error)} _ r refl in
+    let b1 = phase-more 0 _ _ _ l b0 (c .before .before .before .before .before .before .walk-tiles .ensures) in
+    (ready-image _ r (b1 .sound), omega (arith, b1 .few, sizes (a .t) l .tiles-limit))
+
+walk-tiles-requires-3 : tie.Need-walk-tiles-requires-3
+walk-tiles-requires-3 c κs =
+    let a = c .before .before .before .before .before .before .before .before .before .before .before .before .before .before .before .before .before .before .before .before .before .args in
+    let r = c .before .before .before .before .before .before .before .before .before .before .before .before .before .before .before .before .before .before .before .before .before .pre in
+    let l = r .limits in
+    let b0 = between-none {run = run0 (a .error)} _ r refl in
+    let b1 = phase-more 0 _ _ _ l b0 (c .before .before .before .before .before .before .before .before .before .before .before .before .before .walk-tiles .ensures) in
+    let b2 = phase-more 1 _ _ _ l b1 (c .before .before .before .before .before .before .walk-tiles2 .ensures) in
+    (ready-image _ r (b2 .sound), omega (arith, b2 .few, sizes (a .t) l .tiles-limit))
+
+walk-tiles-requires-4 : tie.Need-walk-tiles-requires-4
+walk-tiles-requires-4 c κs =
+    let a = c .before .before .before .before .before .before .before .before .before .before .before .before .before .before .before .before .before .before .before .before .before .before .before .before .before .before .before .before .args in
+    let r = c .before .before .before .before .before .before .before .before .before .before .before .before .before .before .before .before .before .before .before .before .before .before .before .before .before .before .before .before .pre in
+    let l = r .limits in
+    let b0 = between-none {run = run0 (a .error)} _ r refl in
+    let b1 = phase-more 0 _ _ _ l b0 (c .before .before .before .before .before .before .before .before .before .before .before .before .before .before .before .before .before .before .before .before .walk-tiles .ensures) in
+    let b2 = phase-more 1 _ _ _ l b1 (c .before .before .before .before .before .before .before .before .before .before .before .before .before .walk-tiles2 .ensures) in
+    let b3 = phase-more 2 _ _ _ l b2 (c .before .before .before .before .before .before .walk-tiles3 .ensures) in
+    (ready-image _ r (b3 .sound), omega (arith, b3 .few, sizes (a .t) l .tiles-limit))
+
+same-length : tie.Need-same-length
+same-length c = c .before .before .before .before .walk-tiles4 .kept .0 ∙ c .before .before .before .before .before .before .before .before .before .before .before .walk-tiles3 .kept .0 ∙ c .before .before .before .before .before .before .before .before .before .before .before .before .before .before .before .before .before .before .walk-tiles2 .kept .0 ∙ c .before .before .before .before .before .before .before .before .before .before .before .before .before .before .before .before .before .before .before .before .before .before .before .before .before .walk-tiles .kept .0
+
+same-length-2 : tie.Need-same-length-2
+same-length-2 c = search needs
+
+returns : tie.Need-returns
+returns c =
+    let a = c .before .before .before .before .before .before .before .before .before .before .before .before .before .before .before .before .before .before .before .before .before .before .before .before .before .before .before .before .before .before .before .before .before .args in
+    let r = c .before .before .before .before .before .before .before .before .before .before .before .before .before .before .before .before .before .before .before .before .before .before .before .before .before .before .before .before .before .before .before .before .before .pre in
+    let l = r .limits in
+    let b0 = between-none {run = run0 (a .error)} _ r refl in
+    let b1 = phase-more 0 _ _ _ l b0 (c .before .before .before .before .before .before .before .before .before .before .before .before .before .before .before .before .before .before .before .before .before .before .before .before .before .walk-tiles .ensures) in
+    let b2 = phase-more 1 _ _ _ l b1 (c .before .before .before .before .before .before .before .before .before .before .before .before .before .before .before .before .before .before .walk-tiles2 .ensures) in
+    let b3 = phase-more 2 _ _ _ l b2 (c .before .before .before .before .before .before .before .before .before .before .before .walk-tiles3 .ensures) in
+    let b4 = phase-more 3 _ _ _ l b3 (c .before .before .before .before .walk-tiles4 .ensures) in
+    (b4 .same, omega (arith, b4 .few, sizes (a .t) l .tiles-limit))
+
+pub walk-pass-spec : {M : Type 1} → statement M
+walk-pass-spec =
+    tie.close
+    (tie.spec
+    walk-tiles-requires
+    walk-tiles-requires-2
+    walk-tiles-requires-3
+    walk-tiles-requires-4
+    same-length
+    same-length-2
+    returns)

@@ -1,0 +1,51 @@
+-- `walk::walk_tile` meets its contract: the tile is refined on the whole image, and its answer joins the run. Assumes nothing.
+use mathlib.Core.Path.{_≡_, ap}
+use native.Mathlib.Omega.{arith}
+use Rattle.tiling.specs.Tiling.{image, tile}
+use Rattle.search.specs.Shared.{Shared, shared}
+use Rattle.tile.specs.Tile.{State, state, refineTile, noProgress}
+use Rattle.walk.specs.Walk.{joined, walkTile}
+use Rattle.walk.proofs.Laws.{image-covers, tile-few}
+use borrow.Author.Needs.{needs}
+use Rattle.walk.proofs.walk_tile.Statement.{statement}
+use Rattle.walk.proofs.walk_tile.Tie as tie
+
+image-rect-requires : tie.Need-image-rect-requires
+image-rect-requires c κs = search needs
+
+tile-rect-requires : tie.Need-tile-rect-requires
+tile-rect-requires c κs = search needs
+
+refine-tile-requires : tie.Need-refine-tile-requires
+refine-tile-requires c κs =
+    rw (c .before .before .before .image-rect .ensures, c .before .before .tile-rect .ensures) (c .before .before .before .before .before .before .before .before .before .pre .0, image-covers (c .before .before .before .before .before .before .before .before .before .args .t) (c .before .before .before .before .before .before .before .before .before .args .tile) (c .before .before .before .before .before .before .before .before .before .pre .1 .0))
+
+add-t18 : tie.Need-add-t18
+add-t18 c =
+    let a = c .before .before .before .before .before .before .before .before .before .before .before .before .before .before .before .before .before .before .args in
+    let S : Shared = shared (a .t) (a .count) (a .pinned .now) (a .inks .now) (a .cpp .now) in
+    let e = rw (c .before .before .before .before .before .before .before .before .before .before .before .before .image-rect .ensures, c .before .before .before .before .before .before .before .before .before .before .before .tile-rect .ensures) at (c .before .before .before .before .before .before .before .before .refine-tile .ensures) in
+    let n : c .before .before .before .before .before .before .before .before .refine-tile .result .accepted ≡ refineTile S (image (a .t)) (tile (a .t) (a .tile)) (state (a .cpe .now) (a .indices .now) noProgress) .progress .accepted = ap (λ (s : State). s .progress .accepted) e in
+    omega (arith, n, tile-few S (image (a .t)) (a .tile) (state (a .cpe .now) (a .indices .now) noProgress) (c .before .before .before .before .before .before .before .before .before .before .before .before .before .before .before .before .before .before .pre .0 .limits), c .before .before .before .before .before .before .before .before .before .before .before .before .before .before .before .before .before .before .pre .1 .1)
+
+same-length : tie.Need-same-length
+same-length c = search needs
+
+same-length-2 : tie.Need-same-length-2
+same-length-2 c = search needs
+
+returns : tie.Need-returns
+unfolding walkTile
+returns c = ap (joined (c .before .before .before .before .before .before .before .before .before .before .before .before .before .before .before .before .before .before .args .run)) (rw (c .before .before .before .before .before .before .before .before .before .before .before .before .image-rect .ensures, c .before .before .before .before .before .before .before .before .before .before .before .tile-rect .ensures) at (c .before .before .before .before .before .before .before .before .refine-tile .ensures))
+
+pub walk-tile-spec : {M : Type 1} → statement M
+walk-tile-spec =
+    tie.close
+    (tie.spec
+    image-rect-requires
+    tile-rect-requires
+    refine-tile-requires
+    add-t18
+    same-length
+    same-length-2
+    returns)

@@ -1,0 +1,35 @@
+-- `walk::walk_try` meets its contract: each arm is one of the definition's. Assumes nothing.
+use mathlib.Core.Path.{sym, _∙_}
+use Rattle.walk.specs.Walk.{walkTry}
+use borrow.Author.Needs.{needs}
+use Rattle.walk.proofs.walk_try.Statement.{statement}
+use Rattle.walk.proofs.walk_try.Tie as tie
+
+is-in-phase-requires : tie.Need-is-in-phase-requires
+is-in-phase-requires c κs = search needs
+
+walk-tile-requires : tie.Need-walk-tile-requires
+walk-tile-requires c κs = search needs
+
+same-length : tie.Need-same-length
+same-length c = search needs
+
+same-length-2 : tie.Need-same-length-2
+same-length-2 c = search needs
+
+returns : tie.Need-returns
+unfolding walkTry
+returns c =
+    let flag = sym (c .before .before .before .before .before .before .before .before .is-in-phase .ensures) ∙ c .before .before .before .before .before .before .before .if1 .taken in
+    rw flag (c .before .before .before .before .walk-tile .ensures)
+
+returns-2 : tie.Need-returns-2
+unfolding walkTry
+returns-2 c =
+    let flag = sym (c .before .is-in-phase .ensures) ∙ c .if1 .left in
+    rw flag
+
+pub walk-try-spec : {M : Type 1} → statement M
+walk-try-spec =
+    tie.close
+    (tie.spec is-in-phase-requires walk-tile-requires same-length same-length-2 returns returns-2)
