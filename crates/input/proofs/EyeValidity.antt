@@ -1,46 +1,47 @@
 -- An eye passes its tests exactly where it is valid: where both numbers are finite and above 0 no width is a NaN, and of two numbers that
 -- are no NaN either the first is below the second or the second is at most the first. Assumes nothing.
 use Prim.Native.Nat.{ℕ, _+_, _*_, _^_, _≤_}
-use mathlib.Core.Path.{_≡_, refl}
-use mathlib.Core.Logic.{_↔_, _⊎_, inl, inr, ⊎-elim}
-use mathlib.Core.Bool.{Bool, true, false, _&&_, _||_, true≢false, false≢true}
+use mathlib.Core.Path.{_≡_, refl, sym}
+use mathlib.Core.Logic.{_↔_}
+use mathlib.Core.Bool.{Bool, true, false, not, _&&_, _||_, true≢false}
 use native.Mathlib.Omega.{arith}
-use borrow.Author.Tests.{ltb-false, le-ltb, eq-eqb}
-use lib.Dec.{T, ltb, eqb, ltb→lt, eqb→eq}
+use borrow.Author.Tests.{ltb-true, ltb-false, le-ltb, eq-eqb}
+use lib.Dec.{T, ltb, eqb, eqb→eq}
 use lib.Ieee.{Float, nan, inf, fin, up, down, lt, le, below, level, mul, ofBits}
 use lib.Ieee.Fits.{down-pos, and-l, and-r}
+use Rattle.base.specs.F64.{f0}
 use Rattle.base.specs.Refusal.{Passes}
 use Rattle.eye.specs.declared.DbsParams.{DbsParams}
 use Rattle.eye.specs.Constants.{alphaLum, alphaChroma, sigmaMin, truncationMax}
 use Rattle.eye.specs.Eye.{sigmaPx, truncation, Narrow, isFinitePositive, eyeTests}
 use Rattle.eye.proofs.EyeLaws.{narrow-both}
 use Rattle.input.specs.Valid.{FinitePositive, ValidEye}
-use Rattle.input.proofs.Limits.{passes-iff}
 
-true-iff : (b : Bool) → (b ≡ true) ↔ T b
-true-iff true = (λ e. tt, λ t. refl)
-true-iff false = (λ e. absurd (false≢true e), λ t. absurd t)
+passed : (b : Bool) → (not b ≡ false) ↔ T b
+passed true = (λ e. tt, λ t. refl)
+passed false = (λ e. absurd (true≢false e), λ t. absurd t)
 
-or-split : (a b : Bool) → T (a || b) → T a ⊎ T b
-or-split true b t = inl tt
-or-split false b t = inr t
-
-finite-positive-iff : (x : Float) → (isFinitePositive x ≡ true) ↔ FinitePositive x
+finite-positive-iff : (x : Float) → (not (isFinitePositive x) ≡ false) ↔ FinitePositive x
 unfolding isFinitePositive
-finite-positive-iff nan = (λ e. absurd (false≢true e), λ f. absurd (f .finite))
-finite-positive-iff (inf s) = (λ e. absurd (false≢true e), λ f. absurd (f .finite))
-finite-positive-iff (fin s m e) = (λ h. record { finite = tt; positive = true-iff _ .0 h }, λ f. true-iff _ .1 (f .positive))
+finite-positive-iff nan = (λ e. absurd (true≢false e), λ f. absurd (f .finite))
+finite-positive-iff (inf s) = (λ e. absurd (true≢false e), λ f. absurd (f .finite))
+finite-positive-iff (fin s m e) = let p = passed (lt f0 (fin s m e)) in (λ h. record { finite = tt; positive = p .0 h }, λ f. p .1 (f .positive))
 
 -- ---- order
 
+below-or-same : (a b : ℕ) (same : Bool) → (T same → a ≡ b) → T (ltb a b || (same && true)) → a ≤ b
+below-or-same a b same e h = go (ltb a b) refl h
+  where
+    go : (c : Bool) → ltb a b ≡ c → T (c || (same && true)) → a ≤ b
+    go true l u = omega (arith, ltb-true a b l)
+    go false l u = omega (arith, e (and-l same true u))
+
 -- ±a ≤ ±b, so ±b is not below ±a
 not-below : (s t : Bool) (a b : ℕ) → T (below s a t b || level s a t b) → below t b s a ≡ false
-not-below false false a b h =
-    le-ltb b a (⊎-elim (λ u. omega (arith, ltb→lt a b u)) (λ u. omega (arith, eqb→eq a b (and-l (eqb a b) true u))) (or-split (ltb a b) (eqb a b && true) h))
+not-below false false a b h = le-ltb b a (below-or-same a b (eqb a b) (eqb→eq a b) h)
 not-below false true a b h = le-ltb 0 (b + a) (omega (arith, eqb→eq a b (and-l (eqb a b) (eqb a 0) h), eqb→eq a 0 (and-r (eqb a b) (eqb a 0) h)))
 not-below true false a b h = refl
-not-below true true a b h =
-    le-ltb a b (⊎-elim (λ u. omega (arith, ltb→lt b a u)) (λ u. omega (arith, eqb→eq a b (and-l (eqb a b) true u))) (or-split (ltb b a) (eqb a b && true) h))
+not-below true true a b h = le-ltb a b (below-or-same b a (eqb a b) (λ u. sym (eqb→eq a b u)) h)
 
 le-not-lt : (x y : Float) → T (le x y) → lt y x ≡ false
 unfolding lt le
@@ -78,21 +79,17 @@ least (fin false m d) h e = at-most (3602879701896397 * down d) (m * up d * 2 ^ 
 pub eye-valid : (p : DbsParams) → Passes (eyeTests p) → ValidEye p
 unfolding Passes eyeTests Narrow
 eye-valid p t = let n = narrow-both p t in record {
-  ppi-fits = finite-positive-iff (p .ppi) .0 (passes-iff _ .0 (t .0));
-  distance-fits = finite-positive-iff (p .«viewing_distance_cm») .0 (passes-iff _ .0 (t .1 .0));
+  ppi-fits = finite-positive-iff (p .ppi) .0 (t .0);
+  distance-fits = finite-positive-iff (p .«viewing_distance_cm») .0 (t .1 .0);
   sigma-least = least (sigmaPx alphaLum p) (n .0) (t .1 .1 .0);
   truncation-most = n .1;
 }
 
 pub valid-eye : (p : DbsParams) → ValidEye p → Passes (eyeTests p)
 unfolding Passes eyeTests
-valid-eye p v = (
-  passes-iff _ .1 (finite-positive-iff (p .ppi) .1 (v .ppi-fits)),
-  (
-    passes-iff _ .1 (finite-positive-iff (p .«viewing_distance_cm») .1 (v .distance-fits)),
-    (
-      le-not-lt sigmaMin (sigmaPx alphaLum p) (v .sigma-least),
-      (le-not-lt (truncation (sigmaPx alphaChroma p)) truncationMax (v .truncation-most), tt),
-    ),
-  ),
-)
+valid-eye p v =
+    let ppi = finite-positive-iff (p .ppi) .1 (v .ppi-fits) in
+    let distance = finite-positive-iff (p .«viewing_distance_cm») .1 (v .distance-fits) in
+    let lum = le-not-lt sigmaMin (sigmaPx alphaLum p) (v .sigma-least) in
+    let chroma = le-not-lt (truncation (sigmaPx alphaChroma p)) truncationMax (v .truncation-most) in
+    (ppi, (distance, (lum, (chroma, tt))))

@@ -29,17 +29,17 @@ named-at n l i h k = rw (add-one i, drop-cons l i 0 h) (named-here n (getD l i 0
 
 -- place p of l is its first that names none of n inks, or its length
 pub record First (n : ℕ) (l : List ℕ) (p : ℕ) : Type 0 where
-  pub within : p ≤ length l
+  pub bound : p ≤ length l
   pub before : (i : ℕ) → i < p → getD l i 0 < n
   pub there : p < length l → n ≤ getD l p 0
 
 pub first-is : (n : ℕ) (l : List ℕ) → First n l (firstUnnamed n l)
-first-is n [] = unfold firstUnnamed in record { within = omega arith; before = λ i h. omega arith; there = λ h. omega arith }
+first-is n [] = unfold firstUnnamed in record { bound = omega arith; before = λ i h. omega arith; there = λ h. omega arith }
 first-is n (k ∷ ks) = go (ltb k n) refl (first-is n ks)
   where
     go : (b : Bool) → ltb k n ≡ b → First n ks (firstUnnamed n ks) → First n (k ∷ ks) (firstUnnamed n (k ∷ ks))
     go true e f = rw (named-here n k ks (ltb-true k n e)) (record {
-      within = omega (arith, f .within);
+      bound = omega (arith, f .bound);
       before = earlier;
       there = λ h. f .there (omega arith);
     })
@@ -47,7 +47,7 @@ first-is n (k ∷ ks) = go (ltb k n) refl (first-is n ks)
         earlier : (i : ℕ) → i < suc (firstUnnamed n ks) → getD (k ∷ ks) i 0 < n
         earlier zero h = ltb-true k n e
         earlier (suc i) h = f .before i (omega arith)
-    go false e f = rw (unnamed-here n k ks (ltb-false k n e)) (record { within = omega arith; before = λ i h. omega arith; there = λ h. ltb-false k n e })
+    go false e f = rw (unnamed-here n k ks (ltb-false k n e)) (record { bound = omega arith; before = λ i h. omega arith; there = λ h. ltb-false k n e })
 
 -- the test of row 6 passes exactly where every index names an ink
 pub named-of : (n : ℕ) (l : List ℕ) → ltb (firstUnnamed n l) (length l) ≡ false → (i : ℕ) → i < length l → getD l i 0 < n

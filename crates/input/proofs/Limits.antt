@@ -10,7 +10,7 @@ use lib.Dec.{leb, eqb}
 use Rattle.input.specs.Input.{within, sizeFits, maskFits, paletteFits}
 
 -- a test that passes is one whose opposite holds
-pub passes-iff : (b : Bool) → (not b ≡ false) ↔ (b ≡ true)
+passes-iff : (b : Bool) → (not b ≡ false) ↔ (b ≡ true)
 passes-iff b = (not-false b, ap not)
 
 and-iff : (a b : Bool) → ((a && b) ≡ true) ↔ ((a ≡ true) × (b ≡ true))

@@ -12,7 +12,7 @@ use Rattle.eye.specs.declared.Eye.{Eye}
 use Rattle.eye.specs.Constants.{alphaLum, alphaChroma}
 use Rattle.eye.specs.Eye.{eye, eyeTests, kernelRadius}
 
--- Document 01's plane, palette, indices, pin mask and eye record. Measuring is given no mask: an empty one.
+-- Document 01's plane with its pixels, palette, indices and pin mask, and the eye record. Measuring has no mask: here an empty one.
 pub record Input : Type 0 where
   pub width : ℕ
   pub height : ℕ
@@ -63,28 +63,28 @@ firstUnnamed n (k ∷ ks) = let later = firstUnnamed n ks in cond (ltb k n) (suc
 -- rows 1 to 4, of a size and the lengths of the pixels, the indices and the mask
 unfoldable pub imageTests : ℕ → ℕ → ℕ → ℕ → ℕ → List Test
 imageTests w h pixels indices pinned =
-    test (not (sizeFits w h)) 1 0
-    ∷ test (not (eqb pixels (3 * (h * w)))) 2 0
-    ∷ test (not (eqb indices (h * w))) 3 0
-    ∷ test (not (maskFits pinned (h * w))) 4 0
+    test (not (sizeFits w h)) 1 0  -- 'w or h outside its limit'
+    ∷ test (not (eqb pixels (3 * (h * w)))) 2 0  -- 'pixels not 3n'
+    ∷ test (not (eqb indices (h * w))) 3 0  -- 'indices not n'
+    ∷ test (not (maskFits pinned (h * w))) 4 0  -- 'mask neither 0 nor n'
     ∷ []
 
 -- rows 5 and 6, of the palette's length and the indices: pinned pixels have an ink too
 unfoldable pub inkTests : ℕ → List ℕ → List Test
 inkTests palette indices =
     let place = firstUnnamed (palette / 3) indices in
-    test (not (paletteFits palette)) 5 0
-    ∷ test (ltb place (length indices)) 6 place
+    test (not (paletteFits palette)) 5 0  -- 'palette not 3 × (1–256) bytes'
+    ∷ test (ltb place (length indices)) 6 place  -- 'an index names no ink', 'first such, from 0'
     ∷ []
 
--- rows 1 to 9
+-- rows 1 to 9; with an empty mask row 4 passes, so that measuring is refused by 1, 2, 3 and 5 to 9 only
 unfoldable pub inputTests : Input → List Test
 inputTests I =
     imageTests (I .width) (I .height) (length (I .pixels)) (length (I .indices)) (length (I .pinned))
     ++ (inkTests (length (I .palette)) (I .indices)
     ++ eyeTests (I .params))
 
--- the answer to an eye's tests and to these: 0, 0 and both kernel radii, or the refusal and zeros
+-- a judgement with both kernel radii, which are zeros where it is a refusal, as `eyeOf` has them
 abbrev pub answered : Status → DbsParams → Eye
 answered s p = cond (eqb (s .number) 0) (eye s (kernelRadius alphaLum p) (kernelRadius alphaChroma p)) (eye s 0 0)
 
@@ -93,11 +93,11 @@ checkedOf I = answered (judge (inputTests I)) (I .params)
 
 -- ---- rows 10 and 11: a run and the buffers lent to it
 
--- row 10
+-- row 10: 'passes above 1,000'
 abbrev pub passesTest : ℕ → Test
 passesTest passes = test (ltb 1000 passes) 10 0
 
--- a line of row 11: a buffer, its length, and the length that it is to have
+-- a line of row 11, 'length wrong': a buffer, its length, and the length that it is to have
 abbrev pub lengthTest : ℕ → ℕ → ℕ → Test
 lengthTest buffer len wanted = test (not (eqb len wanted)) 11 buffer
 
@@ -106,17 +106,17 @@ lengthTest buffer len wanted = test (not (eqb len wanted)) 11 buffer
 unfoldable pub runTests : ℕ → ℕ → ℕ → ℕ → ℕ → List Test
 runTests passes cpeWanted cpe cpp counts =
     passesTest passes
-    ∷ lengthTest 1 cpe cpeWanted
-    ∷ lengthTest 2 cpp 8450
-    ∷ lengthTest 3 counts passes
+    ∷ lengthTest 1 cpe cpeWanted  -- '1 field'
+    ∷ lengthTest 2 cpp 8450  -- '2 kernels'
+    ∷ lengthTest 3 counts passes  -- '3 counts'
     ∷ []
 
--- rows 10 and 11 of refine: the ink values besides
+-- rows 10 and 11 of refine: '8 ink values' besides
 unfoldable pub refineRunTests : ℕ → ℕ → ℕ → ℕ → ℕ → ℕ → ℕ → List Test
 refineRunTests passes cpeWanted inksWanted cpe cpp counts inks = runTests passes cpeWanted cpe cpp counts ++ (lengthTest 8 inks inksWanted ∷ [])
 
--- rows 10 and 11 of open: tile states (document 01's ledger) and deltas besides, one for each tile; how many tiles an image has is the
--- crate tiling's to say
+-- rows 10 and 11 of open: '4 ledger' (the tile states), '5 deltas' and '8 ink values' besides; how many tiles an image has is the crate
+-- tiling's to say
 unfoldable pub openRunTests : ℕ → ℕ → ℕ → ℕ → ℕ → ℕ → ℕ → ℕ → ℕ → ℕ → List Test
 openRunTests passes cpeWanted inksWanted tiles cpe cpp counts states deltas inks =
     runTests passes cpeWanted cpe cpp counts

@@ -50,18 +50,21 @@ fn is_within(low: u64, x: u64, high: u64) -> bool
     low <= x && x <= high
 }
 
+// A width of 1 to 4,096 and a height of 0 to 4,096.
 fn is_size(width: u64, height: u64) -> bool
     ensures { λ r. ⌜ r ≡ sizeFits width height ⌝ }
 {
     is_within(1, width, MAX_SIDE) && height <= MAX_SIDE
 }
 
+// No mask, or a byte for each of n pixels.
 fn is_mask(pinned_len: usize, n: usize) -> bool
     ensures { λ r. ⌜ r ≡ maskFits «pinned_len» n ⌝ }
 {
     pinned_len == 0 || pinned_len == n
 }
 
+// 3 bytes for each of 1 to 256 inks.
 fn is_palette(palette_len: usize) -> bool
     ensures { λ r. ⌜ r ≡ paletteFits «palette_len» ⌝ }
 {

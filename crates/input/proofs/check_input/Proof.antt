@@ -4,7 +4,7 @@ use borrow.Author.Needs.{needs}
 use borrow.Author.Tests.{eq-eqb, ne-eqb}
 use Rattle.base.specs.Refusal.{judge}
 use Rattle.eye.specs.Eye.{eyeTests}
-use Rattle.input.specs.Input.{Input, input, inputTests}
+use Rattle.input.specs.Input.{Input, input, firstRefusal, inputTests}
 use Rattle.input.proofs.InputLaws.{first-of-three, checked-refused, checked-eye}
 use Rattle.input.proofs.check_input.Statement.{statement}
 use Rattle.input.proofs.check_input.Tie as tie
@@ -32,6 +32,13 @@ returns c =
 check-inks-requires : tie.Need-check-inks-requires
 check-inks-requires c κs = search needs
 
+-- past the first group
+abbrev passed : tie.After-check-inks → Input
+passed c = given (c .before .before .before)
+
+others : (c : tie.After-check-inks) → judge (inputTests (passed c)) ≡ firstRefusal (c .check-inks .result) (judge (eyeTests (passed c .params)))
+others c = rw (first-of-three (passed c), ← c .before .before .before .check-image .ensures, ← c .check-inks .ensures, eq-eqb _ _ (c .before .if1 .left))
+
 refused-requires-2 : tie.Need-refused-requires-2
 refused-requires-2 c κs = search needs
 
@@ -39,11 +46,7 @@ returns-2 : tie.Need-returns-2
 returns-2 c =
     let at = c .before in
     let inks = at .before .before in
-    let image = inks .before .before .before in
-    let I = given image in
-    let judged : judge (inputTests I) ≡ inks .check-inks .result =
-    rw (first-of-three I, ← image .check-image .ensures, ← inks .check-inks .ensures, eq-eqb _ _ (inks .before .if1 .left), ne-eqb _ _ (at .if2 .taken)) in
-    c .refused2 .ensures ∙ sym (checked-refused I _ judged (at .if2 .taken))
+    c .refused2 .ensures ∙ sym (checked-refused (passed inks) _ (others inks ∙ rw (ne-eqb _ _ (at .if2 .taken))) (at .if2 .taken))
 
 validate-requires : tie.Need-validate-requires
 validate-requires c κs = search needs
@@ -52,11 +55,7 @@ returns-3 : tie.Need-returns-3
 returns-3 c =
     let at = c .before in
     let inks = at .before .before in
-    let image = inks .before .before .before in
-    let I = given image in
-    let judged : judge (inputTests I) ≡ judge (eyeTests (I .params)) =
-    rw (first-of-three I, ← image .check-image .ensures, ← inks .check-inks .ensures, eq-eqb _ _ (inks .before .if1 .left), eq-eqb _ _ (at .if2 .left)) in
-    c .validate .ensures ∙ sym (checked-eye I judged)
+    c .validate .ensures ∙ sym (checked-eye (passed inks) (others inks ∙ rw (eq-eqb _ _ (at .if2 .left))))
 
 pub check-input-spec : {M : Type 1} → statement M
 check-input-spec =

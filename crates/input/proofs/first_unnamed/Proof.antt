@@ -27,9 +27,10 @@ wide-requires c κs = search needs
 
 returns : tie.Need-returns Inv-loop μ-loop
 returns c =
-    let at = c .before .before .before .before in
-    let l = c .before .before .before .before .before .before .args .indices .now in
-    omega (arith, at .loop .inv .1, unnamed-at (c .before .before .before .before .before .before .args .n) l (at .loop .i) (c .before .before .before .loop-test .taken) (omega (arith, c .before .wide .ensures)))
+    let turn = c .before .before .before in
+    let at = turn .before in
+    let start = at .before .before in
+    omega (arith, at .loop .inv .1, unnamed-at (start .args .n) (start .args .indices .now) (at .loop .i) (turn .loop-test .taken) (omega (arith, c .before .wide .ensures)))
 
 add-i : tie.Need-add-i Inv-loop μ-loop
 add-i c = search needs
@@ -39,12 +40,13 @@ loop-less c = search needs
 
 loop-again : tie.Need-loop-again Inv-loop μ-loop
 loop-again c =
-    let at = c .before .before .before .before in
-    let l = c .before .before .before .before .before .before .args .indices .now in
-    omega (arith, at .loop .inv .1, named-at (c .before .before .before .before .before .before .args .n) l (at .loop .i) (c .before .before .before .loop-test .taken) (omega (arith, c .before .wide .ensures)))
+    let turn = c .before .before .before in
+    let at = turn .before in
+    let start = at .before .before in
+    omega (arith, at .loop .inv .1, named-at (start .args .n) (start .args .indices .now) (at .loop .i) (turn .loop-test .taken) (omega (arith, c .before .wide .ensures)))
 
 returns-2 : tie.Need-returns-2 Inv-loop μ-loop
-returns-2 c = omega (arith, first-is (c .before .before .before .args .n) (c .before .before .before .args .indices .now) .within)
+returns-2 c = omega (arith, first-is (c .before .before .before .args .n) (c .before .before .before .args .indices .now) .bound)
 
 pub first-unnamed-spec : {M : Type 1} → statement M
 first-unnamed-spec =
