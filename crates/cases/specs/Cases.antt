@@ -21,7 +21,8 @@ use Rattle.cpp.specs.Kernel.{lumKernel, chromaKernel, kernelPlace}
 use Rattle.search.specs.declared.Best.{Best}
 use Rattle.search.specs.declared.Move.{Move}
 use Rattle.search.specs.declared.Move.the-variants.{Stay, Toggle, Swap}
-use Rattle.search.specs.Shared.{Shared, shared, inkAt, cpeAt, lessOf}
+use Rattle.color.specs.Values.{lessOf}
+use Rattle.search.specs.Shared.{Shared, shared, inkAt, cpeAt}
 use Rattle.search.specs.Search.{noMove, centres, toggleCost, evaluateOf}
 use Rattle.tile.specs.Tile.{State, state, noProgress, refineTile}
 

@@ -3,3 +3,4 @@ pub mod Lut
 pub mod Transfer
 pub mod YyCxCz
 pub mod Inks
+pub mod Values

@@ -6,12 +6,13 @@
 // proved to be the f64s nearest to the standard's values.
 
 ghost use mathlib.Core.Path.{_≡_};
-ghost use Prim.Native.Nat.{_%_};
+ghost use Prim.Native.Nat.{_+_, _<_, _%_};
 ghost use lib.ListN.{length};
 ghost use Rattle.color.specs.Lut.{srgbToLinear, linear};
 ghost use Rattle.color.specs.Transfer.{Rule};
 ghost use Rattle.color.specs.YyCxCz.{yycxcz};
 ghost use Rattle.color.specs.Inks.{inkValues};
+ghost use Rattle.color.specs.Values.{valuesAt, lessOf};
 
 // The linear light of each sRGB byte (IEC 61966-2-1), as the bits of an f64: document 01's light table.
 const SRGB_TO_LINEAR: [u64; 256] = [
@@ -355,5 +356,28 @@ pub fn palette_to_inks(lut: &[u64; 256], palette: &[u8], inks: &mut [f64])
         inks[i + 1] = ink.cx;
         inks[i + 2] = ink.cz;
         i += 3;
+    }
+}
+
+// The three values of a list from value j on: an ink's, or a pixel's in `cpe`.
+pub fn values_at(l: &[f64], j: usize) -> YyCxCz
+    requires { ⌜ j + 2 < length (now l) ⌝ }
+    ensures { λ r. ⌜ r ≡ valuesAt (now (l .entry)) j ⌝ }
+{
+    YyCxCz {
+        yy: l[j],
+        cx: l[j + 1],
+        cz: l[j + 2],
+    }
+}
+
+// a less b, channel by channel.
+pub fn less(a: YyCxCz, b: YyCxCz) -> YyCxCz
+    ensures { λ r. ⌜ r ≡ lessOf a b ⌝ }
+{
+    YyCxCz {
+        yy: a.yy - b.yy,
+        cx: a.cx - b.cx,
+        cz: a.cz - b.cz,
     }
 }

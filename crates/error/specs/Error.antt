@@ -5,10 +5,11 @@ use mathlib.Core.Bool.{cond}
 use mathlib.Core.List.{List}
 use Prim.Native.Nat.{ℕ, zero, suc, _+_, _-_, _*_, _/_, _%_, _<_, _≤_, min}
 use lib.ListN.{getD, length}
-use lib.Ieee.{Float, nan}
+use lib.Ieee.{Float}
 use Rattle.base.specs.Loop.{upTo, fromTo, table}
-use Rattle.base.specs.F64.{_+f_, _-f_, _*f_, f0}
+use Rattle.base.specs.F64.{_+f_, _*f_, f0}
 use Rattle.color.specs.declared.YyCxCz.{YyCxCz}
+use Rattle.color.specs.Values.{valuesAt, lessOf}
 use Rattle.color.specs.YyCxCz.{yycxcz}
 use Rattle.color.specs.Inks.{channel}
 use Rattle.pins.specs.Pins.{pinnedAt, MaskFits}
@@ -28,14 +29,6 @@ abbrev pub scene : List ℕ → List ℕ → List ℕ → List Float → Scene
 scene pixels indices pinned inks = record { pixels = pixels; indices = indices; pinned = pinned; inks = inks }
 
 -- ---- the error of a pixel
-
--- three values side by side, from value j on: those of an ink, or those of a pixel in `cpe`, and neither list ends before them
-abbrev pub valuesAt : List Float → ℕ → YyCxCz
-valuesAt l j = record { yy = getD l j nan; cx = getD l (j + 1) nan; cz = getD l (j + 2) nan }
-
--- a less b, channel by channel
-abbrev pub lessOf : YyCxCz → YyCxCz → YyCxCz
-lessOf a b = record { yy = a .yy -f b .yy; cx = a .cx -f b .cx; cz = a .cz -f b .cz }
 
 -- pixel (x, y) of an image of w columns
 module _ (w : ℕ) (G : Scene) (x y : ℕ) where

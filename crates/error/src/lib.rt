@@ -11,29 +11,7 @@ ghost use Rattle.base.specs.F64.{_+f_, _*f_, f0};
 ghost use Rattle.color.specs.Lut.{srgbToLinear};
 ghost use Rattle.color.specs.Inks.{channel};
 ghost use Rattle.cpp.specs.Kernel.{KernelFits};
-ghost use Rattle.error.specs.Error.{scene, valuesAt, lessOf, errorAt, correlateRow, correlateAt, fieldAt, fieldOf, initialError, SceneFits, PixelFits, FieldFits};
-
-// The three values from value j on.
-fn values_at(l: &[f64], j: usize) -> YyCxCz
-    requires { ⌜ j + 2 < length (now l) ⌝ }
-    ensures { λ r. ⌜ r ≡ valuesAt (now (l .entry)) j ⌝ }
-{
-    YyCxCz {
-        yy: l[j],
-        cx: l[j + 1],
-        cz: l[j + 2],
-    }
-}
-
-fn less(a: YyCxCz, b: YyCxCz) -> YyCxCz
-    ensures { λ r. ⌜ r ≡ lessOf a b ⌝ }
-{
-    YyCxCz {
-        yy: a.yy - b.yy,
-        cx: a.cx - b.cx,
-        cz: a.cz - b.cz,
-    }
-}
+ghost use Rattle.error.specs.Error.{scene, errorAt, correlateRow, correlateAt, fieldAt, fieldOf, initialError, SceneFits, PixelFits, FieldFits};
 
 // Where three sums start.
 pub fn zero() -> YyCxCz
@@ -85,13 +63,13 @@ pub fn error_at(
 {
     let i = y * width + x;
     let k = indices[i] as usize;
-    let ink = values_at(inks, 3 * k);
+    let ink = color::values_at(inks, 3 * k);
     let j = 3 * i;
     let colour = color::srgb_to_yycxcz(lut, pixels[j], pixels[j + 1], pixels[j + 2]);
     if pins::is_pinned(pinned, width, x, y) {
-        return less(ink, ink);
+        return color::less(ink, ink);
     }
-    less(ink, colour)
+    color::less(ink, colour)
 }
 
 // The first column or row of the image within r of m.
@@ -292,7 +270,7 @@ pub fn initial_error(
             i % width,
             i / width,
         );
-        s = add_products(s, e, values_at(cpe, 3 * i));
+        s = add_products(s, e, color::values_at(cpe, 3 * i));
         i += 1;
     }
     0.0 + s.yy + s.cx + s.cz

@@ -15,7 +15,8 @@ use Rattle.neighbour.specs.Neighbour.{neighbourOf}
 use Rattle.sweep.specs.Sweep.{addKernels}
 use Rattle.search.specs.declared.Move.{Move}
 use Rattle.search.specs.declared.Move.the-variants.{Stay, Toggle, Swap}
-use Rattle.search.specs.Shared.{Shared, inkAt, indexAt, lessOf, negOf}
+use Rattle.color.specs.Values.{lessOf, negOf}
+use Rattle.search.specs.Shared.{Shared, inkAt, indexAt}
 use Rattle.moves.specs.declared.Progress.{Progress}
 
 -- the indices: a toggle writes its ink, a swap exchanges two

@@ -14,7 +14,8 @@ ghost use Rattle.tiling.specs.Tiling.{Limits, image};
 ghost use Rattle.neighbour.specs.declared.Adjacent.the-variants.{Pixel};
 ghost use Rattle.neighbour.specs.Neighbour.{neighbourOf};
 ghost use Rattle.sweep.specs.Sweep.{addKernels};
-ghost use Rattle.search.specs.Shared.{shared, valuesAt, indexAt, lessOf, negOf, Held};
+ghost use Rattle.color.specs.Values.{valuesAt, lessOf, negOf};
+ghost use Rattle.search.specs.Shared.{shared, indexAt, Held};
 ghost use Rattle.moves.specs.Moves.{Writable, NamesInk, exchanged, swapKernels, movedIndices, movedCpe, oneMore, counted};
 
 // Moves accepted and the sum of their costs.
@@ -38,10 +39,7 @@ fn change(inks: &[f64], j: usize, k: usize) -> YyCxCz
     requires { ⌜ (3 * j + 2 < length (now inks)) × (3 * k + 2 < length (now inks)) ⌝ }
     ensures { λ r. ⌜ r ≡ lessOf (valuesAt (now (inks .entry)) (3 * j)) (valuesAt (now (inks .entry)) (3 * k)) ⌝ }
 {
-    search::less(
-        search::values_at(inks, 3 * j),
-        search::values_at(inks, 3 * k),
-    )
+    color::less(color::values_at(inks, 3 * j), color::values_at(inks, 3 * k))
 }
 
 // The index of a pixel of the window becomes j.

@@ -20,7 +20,8 @@ use Rattle.neighbour.specs.declared.Adjacent.{Adjacent}
 use Rattle.neighbour.specs.declared.Adjacent.the-variants.{Pixel, Outside}
 use Rattle.neighbour.proofs.Laws.{Beside, Beyond, near-by}
 use Rattle.pins.specs.Pins.{pinnedAt, MaskFits}
-use Rattle.search.specs.Shared.{Shared, valuesAt, cpeAt, indexAt, Named, Ready, Held}
+use Rattle.color.specs.Values.{valuesAt}
+use Rattle.search.specs.Shared.{Shared, cpeAt, indexAt, Named, Ready, Held}
 use Rattle.search.specs.Search.{eligible, partnerOf, Partner}
 
 -- ---- the values of a pixel

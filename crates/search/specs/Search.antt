@@ -22,7 +22,8 @@ use Rattle.search.specs.declared.Best.{Best}
 use Rattle.search.specs.declared.Site.{Site}
 use Rattle.search.specs.declared.Move.{Move}
 use Rattle.search.specs.declared.Move.the-variants.{Stay, Toggle, Swap}
-use Rattle.search.specs.Shared.{Shared, valuesAt, inkAt, cpeAt, indexAt, lessOf}
+use Rattle.color.specs.Values.{valuesAt, lessOf}
+use Rattle.search.specs.Shared.{Shared, inkAt, cpeAt, indexAt}
 
 -- ---- the kernels at their centre and next to it
 

@@ -3,11 +3,11 @@ use mathlib.Core.Path.{_≡_}
 use mathlib.Core.List.{List}
 use Prim.Native.Nat.{ℕ, _+_, _-_, _*_, _<_, _≤_, min}
 use lib.ListN.{getD, length}
-use lib.Ieee.{Float, nan, neg}
+use lib.Ieee.{Float, nan}
 use Rattle.base.specs.declared.Rect.{Rect}
 use Rattle.base.specs.Grid.{area, cell, Within}
-use Rattle.base.specs.F64.{_-f_}
 use Rattle.color.specs.declared.YyCxCz.{YyCxCz}
+use Rattle.color.specs.Values.{valuesAt}
 use Rattle.tiling.specs.declared.Tiling.{Tiling}
 use Rattle.tiling.specs.Tiling.{image, Limits}
 
@@ -21,10 +21,6 @@ pub record Shared : Type 0 where
 abbrev pub shared : Tiling → ℕ → List ℕ → List Float → List Float → Shared
 shared T count pinned inks cpp = record { tiling = T; count = count; pinned = pinned; inks = inks; cpp = cpp }
 
--- three values side by side, from value j on
-abbrev pub valuesAt : List Float → ℕ → YyCxCz
-valuesAt l j = record { yy = getD l j nan; cx = getD l (j + 1) nan; cz = getD l (j + 2) nan }
-
 -- ink j
 abbrev pub inkAt : Shared → ℕ → YyCxCz
 inkAt S j = valuesAt (S .inks) (3 * j)
@@ -36,13 +32,6 @@ cpeAt W cpe x y = record { yy = cell nan 3 W cpe x y 0; cx = cell nan 3 W cpe x 
 -- the index of pixel (x, y): the number of its ink
 abbrev pub indexAt : Rect → List ℕ → ℕ → ℕ → ℕ
 indexAt W indices x y = cell 0 1 W indices x y 0
-
--- a less b, channel by channel
-abbrev pub lessOf : YyCxCz → YyCxCz → YyCxCz
-lessOf a b = record { yy = a .yy -f b .yy; cx = a .cx -f b .cx; cz = a .cz -f b .cz }
-
-abbrev pub negOf : YyCxCz → YyCxCz
-negOf a = record { yy = neg (a .yy); cx = neg (a .cx); cz = neg (a .cz) }
 
 -- every index names one of n inks
 abbrev pub Named : List ℕ → ℕ → Type 0

@@ -14,7 +14,7 @@ ghost use Rattle.base.specs.Grid.{Inside, Within, area};
 ghost use Rattle.base.specs.Loop.{upTo};
 ghost use Rattle.tiling.specs.Tiling.{Limits, image};
 ghost use Rattle.cpp.specs.Kernel.{KernelFits};
-ghost use Rattle.search.specs.Shared.{shared, valuesAt, cpeAt, indexAt, lessOf, Ready, Held};
+ghost use Rattle.search.specs.Shared.{shared, cpeAt, indexAt, Ready, Held};
 ghost use Rattle.search.specs.Search.{centreOf, besideOf, centres, gaps, toggleTerm, swapTerm, toggleCost, swapCost, betterOf, noMove, tryToggle, partnerOf, trySwap, swaps, evaluateOf};
 
 // A move of a pixel. A swap names its neighbour by code.
@@ -34,28 +34,6 @@ pub struct Best {
 pub struct Site {
     pub k: usize,
     pub c: YyCxCz,
-}
-
-// The three values from value j on.
-pub fn values_at(l: &[f64], j: usize) -> YyCxCz
-    requires { ⌜ j + 2 < length (now l) ⌝ }
-    ensures { λ r. ⌜ r ≡ valuesAt (now (l .entry)) j ⌝ }
-{
-    YyCxCz {
-        yy: l[j],
-        cx: l[j + 1],
-        cz: l[j + 2],
-    }
-}
-
-pub fn less(a: YyCxCz, b: YyCxCz) -> YyCxCz
-    ensures { λ r. ⌜ r ≡ lessOf a b ⌝ }
-{
-    YyCxCz {
-        yy: a.yy - b.yy,
-        cx: a.cx - b.cx,
-        cz: a.cz - b.cz,
-    }
 }
 
 // Where pixel (x, y) stands among the pixels of the window.
@@ -86,7 +64,7 @@ pub fn cpe_at(cpe: &[f64], w: Rect, x: usize, y: usize) -> YyCxCz
     requires { ⌜ length (now cpe) ≡ 3 * area w ⌝ }
     ensures { λ r. ⌜ r ≡ cpeAt w (now (cpe .entry)) x y ⌝ }
 {
-    values_at(cpe, 3 * local(w, x, y))
+    color::values_at(cpe, 3 * local(w, x, y))
 }
 
 fn toggle_term(p: f64, a: f64, c: f64) -> f64
@@ -181,7 +159,7 @@ pub fn gaps_of(cpp: &[f64], t: Tiling, code: u8) -> YyCxCz
         cx: chroma,
         cz: chroma,
     };
-    less(centres_of(cpp, t), beside)
+    color::less(centres_of(cpp, t), beside)
 }
 
 // Ink j in the place of the pixel's, if it is another. p: the kernels at their centres.
@@ -193,7 +171,7 @@ fn try_toggle(inks: &[f64], p: YyCxCz, s: Site, j: usize, b: Best) -> Best
     if j == k {
         return b;
     }
-    let a = less(values_at(inks, 3 * j), values_at(inks, 3 * k));
+    let a = color::less(color::values_at(inks, 3 * j), color::values_at(inks, 3 * k));
     better(b, toggle_cost(p, a, s.c), Move::Toggle(j))
 }
 
@@ -269,7 +247,10 @@ fn try_swap(
         return b;
     };
     let kn = index_at(indices, w, nx, ny);
-    let a = less(values_at(inks, 3 * kn), values_at(inks, 3 * k));
+    let a = color::less(
+        color::values_at(inks, 3 * kn),
+        color::values_at(inks, 3 * k),
+    );
     let cn = cpe_at(cpe, w, nx, ny);
     let g = gaps_of(cpp, t, code);
     better(b, swap_cost(g, a, s.c, cn), Move::Swap(code))

@@ -31,7 +31,8 @@ use Rattle.search.specs.declared.Best.{Best}
 use Rattle.search.specs.declared.Site.{Site}
 use Rattle.search.specs.declared.Move.{Move}
 use Rattle.search.specs.declared.Move.the-variants.{Stay, Toggle, Swap}
-use Rattle.search.specs.Shared.{Shared, inkAt, cpeAt, indexAt, lessOf}
+use Rattle.color.specs.Values.{lessOf}
+use Rattle.search.specs.Shared.{Shared, inkAt, cpeAt, indexAt}
 use Rattle.search.specs.Search.{gaps, swapCost, betterOf, noMove, siteAt, toggles, eligible, partnerOf, swapWith, trySwap, swaps, evaluateOf}
 use Rattle.moves.specs.Moves.{exchanged, movedIndices, swapKernels, movedCpe, counted}
 use Rattle.tile.specs.Tile.{State, applied, visitOf, refineRow, refineTile}
