@@ -1,9 +1,12 @@
 // The C interface (include/dbs.h): the static library. Numbers pass as themselves, a slice as a pointer
 // and then its number of elements, answers as structs by value.
 use eye::DbsParams;
+use perceived::Measured;
 use refine::DbsStats;
+ghost use mathlib.Core.List.{[]};
 ghost use mathlib.Core.Path.{_≡_};
 ghost use Rattle.input.specs.Input.{input};
+ghost use Rattle.perceived.specs.Perceived.{measureOf};
 ghost use Rattle.refine.specs.Refine.{refinement, refineOf};
 
 // Refine the indices in place, by the plain walk over the whole image.
@@ -43,4 +46,24 @@ pub extern "C" fn dbs_refine(
         accepted_per_pass,
         inks,
     )
+}
+
+// Perceived error of the indices; pins play no part.
+#[no_mangle]
+pub extern "C" fn perceived_error(
+    pixels: &[u8],
+    width: u64,
+    height: u64,
+    palette: &[u8],
+    indices: &[u8],
+    ppi: f64,
+    viewing_distance_cm: f64,
+) -> Measured
+    ensures { λ r. ⌜ r ≡ measureOf (input width height (now (pixels .entry)) (now (palette .entry)) (now (indices .entry)) [] (record { «viewing_distance_cm» = «viewing_distance_cm»; ppi = ppi })) ⌝ }
+{
+    let params = DbsParams {
+        viewing_distance_cm,
+        ppi,
+    };
+    perceived::measure(pixels, width, height, palette, indices, params)
 }

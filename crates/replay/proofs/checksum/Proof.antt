@@ -1,0 +1,60 @@
+-- `checksum` is safe: the sum stays below its modulus. Assumes nothing.
+use mathlib.Core.Path.{_≡_}
+use Prim.Native.Nat.{_-_, _<_}
+use lib.ListN.{length}
+use borrow.Author.Needs.{needs}
+use Rattle.replay.proofs.checksum.Statement.{statement}
+use Rattle.replay.proofs.checksum.Tie as tie
+
+abbrev Inv-loop : tie.InvT-loop
+Inv-loop x sum₀ i₀ i-end sum i = (i-end ≡ length x) × (sum < 4294967291)
+
+abbrev μ-loop : tie.MeasureT-loop
+μ-loop x sum₀ i₀ i-end sum i = i-end - i
+
+loop-holds : tie.Need-loop-holds Inv-loop μ-loop
+loop-holds c = search needs
+
+mul-bits : tie.Need-mul-bits Inv-loop μ-loop
+mul-bits c = search needs
+
+shared-slice-read-bits : tie.Need-shared-slice-read-bits Inv-loop μ-loop
+shared-slice-read-bits c = search needs
+
+bits-requires : tie.Need-bits-requires Inv-loop μ-loop
+bits-requires c κs = search needs
+
+mix-requires : tie.Need-mix-requires Inv-loop μ-loop
+mix-requires c κs = search needs
+
+mix-requires-2 : tie.Need-mix-requires-2 Inv-loop μ-loop
+mix-requires-2 c κs = search needs
+
+add-i : tie.Need-add-i Inv-loop μ-loop
+add-i c = search needs
+
+loop-less : tie.Need-loop-less Inv-loop μ-loop
+loop-less c = search needs
+
+loop-again : tie.Need-loop-again Inv-loop μ-loop
+loop-again c = search needs
+
+returns : tie.Need-returns Inv-loop μ-loop
+returns c = search needs
+
+pub checksum-spec : {M : Type 1} → statement M
+checksum-spec =
+    tie.close
+    (tie.spec
+    Inv-loop
+    μ-loop
+    loop-holds
+    mul-bits
+    shared-slice-read-bits
+    bits-requires
+    mix-requires
+    mix-requires-2
+    add-i
+    loop-less
+    loop-again
+    returns)

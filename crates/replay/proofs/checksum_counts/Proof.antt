@@ -1,0 +1,52 @@
+-- `checksum_counts` is safe: the sum stays below its modulus. Assumes nothing.
+use mathlib.Core.Path.{_≡_}
+use Prim.Native.Nat.{_-_, _<_}
+use lib.ListN.{length}
+use borrow.Author.Needs.{needs}
+use Rattle.replay.proofs.checksum_counts.Statement.{statement}
+use Rattle.replay.proofs.checksum_counts.Tie as tie
+
+abbrev Inv-loop : tie.InvT-loop
+Inv-loop counts sum₀ i₀ i-end sum i = (i-end ≡ length counts) × (sum < 4294967291)
+
+abbrev μ-loop : tie.MeasureT-loop
+μ-loop counts sum₀ i₀ i-end sum i = i-end - i
+
+loop-holds : tie.Need-loop-holds Inv-loop μ-loop
+loop-holds c = search needs
+
+mul-mix-count : tie.Need-mul-mix-count Inv-loop μ-loop
+mul-mix-count c = search needs
+
+shared-slice-read-mix-count : tie.Need-shared-slice-read-mix-count Inv-loop μ-loop
+shared-slice-read-mix-count c = search needs
+
+mix-count-requires : tie.Need-mix-count-requires Inv-loop μ-loop
+mix-count-requires c κs = search needs
+
+add-i : tie.Need-add-i Inv-loop μ-loop
+add-i c = search needs
+
+loop-less : tie.Need-loop-less Inv-loop μ-loop
+loop-less c = search needs
+
+loop-again : tie.Need-loop-again Inv-loop μ-loop
+loop-again c = search needs
+
+returns : tie.Need-returns Inv-loop μ-loop
+returns c = search needs
+
+pub checksum-counts-spec : {M : Type 1} → statement M
+checksum-counts-spec =
+    tie.close
+    (tie.spec
+    Inv-loop
+    μ-loop
+    loop-holds
+    mul-mix-count
+    shared-slice-read-mix-count
+    mix-count-requires
+    add-i
+    loop-less
+    loop-again
+    returns)
