@@ -1,0 +1,103 @@
+-- What each call answers: it is accepted exactly where what it is given is valid, an accepted one leaves what its definition says, and a refused one
+-- what it was given. All of them judge their tests and then choose, so one law serves them all. Assumes nothing.
+use Prim.Native.Nat.{ℕ}
+use native.Mathlib.Omega.{arith}
+use mathlib.Core.Path.{_≡_, refl, sym, ap₂, _∙_}
+use mathlib.Core.Logic.{_↔_, _≢_}
+use mathlib.Core.Bool.{Bool, true, false, cond}
+use mathlib.Core.List.{List}
+use borrow.Author.Tests.{eqb-true}
+use lib.Dec.{eqb}
+use lib.ListN.{set, replicate}
+use lib.Ieee.{Float}
+use Rattle.base.specs.declared.Status.{Status}
+use Rattle.base.specs.F64.{f0}
+use Rattle.base.specs.Refusal.{Test, judge, accepted, Passes}
+use Rattle.base.proofs.RefusalLaws.{Numbered, accepted-of, passes-of}
+use Rattle.tiling.specs.Tiling.{tiles}
+use Rattle.input.proofs.Validity.{open-numbered}
+use Rattle.prepare.specs.Prepare.{tilingOf, inksOf, cppOf, cpeOf}
+use Rattle.tile.specs.Tile.{State, state, noProgress}
+use Rattle.job.specs.declared.JobRecord.{JobRecord}
+use Rattle.job.specs.Record.{isAccepted, jobShared, recordTests}
+use Rattle.job.specs.Copy.{Pixels, pixels, copyOf, refinedCopy, writtenBack}
+use Rattle.job.specs.Open.{Opening, Opened, openTestsOf, firstRecord, zeroRecord, openOf}
+use Rattle.job.specs.Take.{Taken, taken, takeTests, takeOf}
+use Rattle.job.specs.Work.{Worked, worked, copyTest, workTests, workOf}
+use Rattle.job.specs.PutBack.{PutBack, putBack, countTest, putBackTests, withProgress, putBackOf}
+use Rattle.job.specs.Close.{Closed, closed, closeTests, nextRecord, released, closeOf}
+use Rattle.job.proofs.Bools.{both}
+
+pub accepted-is : (s : Status) → isAccepted s ≡ true → s ≡ accepted
+unfolding isAccepted
+accepted-is s h = let b = both (eqb (s .number) 0) (eqb (s .place) 0) h in ap₂ {C = Status} (λ n p. record { number = n; place = p }) (eqb-true _ _ (b .0)) (eqb-true _ _ (b .1))
+
+pub is-accepted : isAccepted accepted ≡ true
+unfolding isAccepted
+is-accepted = refl
+
+pub not-accepted : (s : Status) → s ≢ accepted → isAccepted s ≡ false
+not-accepted s n = go (isAccepted s) refl
+  where
+    go : (b : Bool) → isAccepted s ≡ b → b ≡ false
+    go true e = absurd (n (accepted-is s e))
+    go false e = refl
+
+-- an answer that is new where its tests pass, and old otherwise
+pub record Answers {A : Type 0} (status : A → Status) (ts : List Test) (new old : Status → A) (given : A) : Type 0 where
+  pub accepts : (status given ≡ accepted) ↔ Passes ts
+  pub leaves : status given ≡ accepted → given ≡ new accepted
+  pub keeps : status given ≢ accepted → given ≡ old (status given)
+
+answers : {A : Type 0} (status : A → Status) (ts : List Test) (new old : Status → A) → Numbered ts → ((s : Status) → status (new s) ≡ s) → ((s : Status) → status (old s) ≡ s) →
+    Answers status ts new old (cond (isAccepted (judge ts)) (new (judge ts)) (old (judge ts)))
+answers {A} status ts new old numbered sy sn = record {
+  accepts = (λ e. passes-of ts numbered (sym is ∙ e), λ p. is ∙ accepted-of ts p);
+  leaves = λ e. rw (sym is ∙ e, is-accepted);
+  keeps = λ n. let other = not-accepted (judge ts) (λ e. n (is ∙ e)) in rw (other, sn (judge ts));
+}
+  where
+    is : status (cond (isAccepted (judge ts)) (new (judge ts)) (old (judge ts))) ≡ judge ts
+    is = go (isAccepted (judge ts))
+      where
+        go : (b : Bool) → status (cond b (new (judge ts)) (old (judge ts))) ≡ judge ts
+        go true = sy (judge ts)
+        go false = sn (judge ts)
+
+pub open-answers : (O : Opening) → Answers (λ (a : Opened). a .status) (openTestsOf O)
+    (λ s. record {
+      status = s;
+      rec = firstRecord O;
+      cpe = cpeOf (O .input) (O .cpp);
+      cpp = cppOf (O .input) (O .cpp);
+      states = replicate (tiles (tilingOf (O .input))) 0;
+      deltas = replicate (tiles (tilingOf (O .input))) f0;
+      inks = inksOf (O .input);
+    })
+    (λ s. record { status = s; rec = zeroRecord; cpe = O .cpe; cpp = O .cpp; states = O .states; deltas = O .deltas; inks = O .inks })
+    (openOf O)
+unfolding openOf openTestsOf
+open-answers O = answers _ _ _ _ (open-numbered (O .input) (O .passes) _ _ _ _ _ _ _) (λ s. refl) (λ s. refl)
+
+pub take-answers : (r : JobRecord) (t : ℕ) (image : Pixels) (states : List ℕ) (copy : Pixels) → Answers (λ (a : Taken). a .status) (takeTests r t image states copy)
+    (λ s. taken s r (set states t 1) (copyOf (r .plan .tiling) t image)) (λ s. taken s r states copy) (takeOf r t image states copy)
+unfolding takeOf takeTests recordTests Numbered
+take-answers r t image states copy = answers _ _ _ _ (omega arith) (λ s. refl) (λ s. refl)
+
+pub work-answers : (r : JobRecord) (t : ℕ) (pinned : List ℕ) (cpp : List Float) (copy : Pixels) (inks : List Float) → Answers (λ (a : Worked). a .status) (workTests r t pinned cpp copy inks)
+    (λ s. worked s (refinedCopy (jobShared r pinned inks cpp) t copy)) (λ s. worked s (state (copy .cpe) (copy .indices) noProgress)) (workOf r t pinned cpp copy inks)
+unfolding workOf workTests recordTests copyTest Numbered
+work-answers r t pinned cpp copy inks = answers _ _ _ _ (omega arith) (λ s. refl) (λ s. refl)
+
+pub putBack-answers : (r : JobRecord) (t : ℕ) (image : Pixels) (states : List ℕ) (deltas : List Float) (made : State) →
+    Answers (λ (a : PutBack). a .status) (putBackTests r t image states deltas made)
+    (λ s. putBack s (withProgress r (made .progress)) (writtenBack (r .plan .tiling) t image (pixels (made .cpe) (made .indices))) (set states t 2) (set deltas t (made .progress .delta)))
+    (λ s. putBack s r image states deltas) (putBackOf r t image states deltas made)
+unfolding putBackOf putBackTests recordTests countTest copyTest Numbered
+putBack-answers r t image states deltas made = answers _ _ _ _ (omega arith) (λ s. refl) (λ s. refl)
+
+pub close-answers : (r : JobRecord) (counts states : List ℕ) (deltas : List Float) → Answers (λ (a : Closed). a .status) (closeTests r counts states deltas)
+    (λ s. closed s (nextRecord r deltas) (cond (eqb (r .phase) 3) (set counts (r .done) (r .accepted)) counts) (released (r .plan .tiling) (r .phase) states))
+    (λ s. closed s r counts states) (closeOf r counts states deltas)
+unfolding closeOf closeTests recordTests Numbered
+close-answers r counts states deltas = answers _ _ _ _ (omega arith) (λ s. refl) (λ s. refl)

@@ -1,0 +1,14 @@
+pub mod Bools
+pub mod Validity
+pub mod Answers
+pub mod Opened
+pub mod Merge
+pub mod Phase
+pub mod Demand3
+pub mod WordsLaws
+pub mod Sums
+pub mod Counts
+pub mod Companions
+pub mod Copies
+pub mod Progress
+pub mod Cases

@@ -1,0 +1,310 @@
+-- A call's tests pass exactly where what it is given is valid: each passes exactly where its limit holds. Assumes nothing.
+use Prim.Native.Nat.{ℕ, zero, suc, _+_, _%_, _≤_, _<_}
+use native.Mathlib.Omega.{arith}
+use native.Mathlib.Decide.{ℕ-discrete}
+use mathlib.Core.Path.{_≡_, refl, ap}
+use mathlib.Core.Logic.{_↔_}
+use mathlib.Core.Bool.{Bool, true, false, not, cond, _&&_}
+use mathlib.Core.List.{List}
+use borrow.Author.Tests.{ltb-true, ltb-false, lt-ltb, le-ltb, leb-true, leb-false, le-leb, lt-leb, eqb-true, eqb-false, eq-eqb, ne-eqb, not-false}
+use lib.Dec.{leb, ltb, eqb}
+use lib.ListN.{getD}
+use lib.Ieee.{Float}
+use Rattle.base.specs.Grid.{area}
+use Rattle.base.specs.Loop.{upTo}
+use Rattle.base.specs.Refusal.{accepted, Passes}
+use Rattle.base.proofs.LoopLaws.{upTo-ind}
+use Rattle.eye.specs.Eye.{KernelRadius}
+use Rattle.tiling.specs.Tiling.{tiles, inPhase, tile}
+use Rattle.input.specs.Input.{within, maskFits}
+use Rattle.input.proofs.JudgeLaws.{passes-append}
+use Rattle.input.proofs.FirstUnnamed.{named-of, of-named}
+use Rattle.tile.specs.Tile.{State}
+use Rattle.job.specs.declared.JobRecord.{JobRecord}
+use Rattle.job.specs.Record.{pixelsOf, radiusFits, recordTests, isDue, isWaiting, isOut, isBack}
+use Rattle.job.specs.Copy.{Pixels}
+use Rattle.job.specs.Take.{takeTests}
+use Rattle.job.specs.Work.{copyTest, workTests}
+use Rattle.job.specs.PutBack.{countTest, putBackTests}
+use Rattle.job.specs.Close.{firstOf, isMissing, closeTests}
+use Rattle.job.specs.Valid.{ValidRecord, ValidTake, ValidWork, ValidPutBack, ValidClose}
+use Rattle.job.proofs.Bools.{both, and-true, or-false, implied}
+
+-- ---- tests as facts
+
+within-of : (low x high : ℕ) → within low x high ≡ true → (low ≤ x) × (x ≤ high)
+within-of low x high h = let b = both (leb low x) (leb x high) h in (leb-true _ _ (b .0), leb-true _ _ (b .1))
+
+of-within : (low x high : ℕ) → low ≤ x → x ≤ high → within low x high ≡ true
+of-within low x high p q = and-true (le-leb _ _ p) (le-leb _ _ q)
+
+equal-of : (a b : ℕ) → not (eqb a b) ≡ false → a ≡ b
+equal-of a b h = eqb-true a b (not-false _ h)
+
+of-equal : (a b : ℕ) → a ≡ b → not (eqb a b) ≡ false
+of-equal a b h = rw (eq-eqb a b h)
+
+mask-of : (pinned n : ℕ) → maskFits pinned n ≡ true → 0 < pinned → pinned ≡ n
+mask-of pinned n e h = let z : eqb pinned 0 ≡ false = ne-eqb pinned 0 (λ q. omega arith) in eqb-true pinned n (rw z at e)
+
+of-mask : (pinned n : ℕ) → (0 < pinned → pinned ≡ n) → maskFits pinned n ≡ true
+of-mask pinned n f = go (eqb pinned 0) refl
+  where
+    go : (b : Bool) → eqb pinned 0 ≡ b → maskFits pinned n ≡ true
+    go true e = rw e
+    go false e = rw e (eq-eqb pinned n (f (omega (arith, eqb-false pinned 0 e))))
+
+radius-of : (R : ℕ) → radiusFits R ≡ true → KernelRadius R
+unfolding radiusFits
+radius-of R h =
+    let b = both (eqb (R % 2) 0) (within 2 R 32) h in
+    let w = within-of 2 R 32 (b .1) in
+    record { even = eqb-true _ _ (b .0); low = w .0; high = w .1 }
+
+of-radius : (R : ℕ) → KernelRadius R → radiusFits R ≡ true
+unfolding radiusFits
+of-radius R k = and-true (eq-eqb _ _ (k .even)) (of-within 2 R 32 (k .low) (k .high))
+
+-- ---- row 12
+
+record-of : (r : JobRecord) → Passes (recordTests r) → ValidRecord r
+unfolding recordTests Passes
+record-of r p =
+    let T = r .plan .tiling in
+    let size = both (within 1 (T .width) 4096) (leb (T .height) 4096) (not-false _ (p .0)) in
+    let wide = within-of 1 (T .width) 4096 (size .0) in
+    let inks = within-of 1 (r .plan .inks) 256 (not-false _ (p .1 .0)) in
+    record {
+      width-least = wide .0;
+      width-most = wide .1;
+      height-most = leb-true _ _ (size .1);
+      inks-least = inks .0;
+      inks-most = inks .1;
+      lum = radius-of (T .lum) (not-false _ (p .1 .1 .0));
+      chroma = radius-of (T .chroma) (not-false _ (p .1 .1 .1 .0));
+      allowed-most = ltb-false _ _ (p .1 .1 .1 .1 .0);
+      done-most = ltb-false _ _ (p .1 .1 .1 .1 .1 .0);
+      phase-most = ltb-false _ _ (p .1 .1 .1 .1 .1 .1 .0);
+      left = λ e. leb-false _ _ (implied _ _ (p .1 .1 .1 .1 .1 .1 .1 .0) (ap not e));
+      accepted-most = ltb-false _ _ (p .1 .1 .1 .1 .1 .1 .1 .1 .0);
+    }
+
+of-record : (r : JobRecord) → ValidRecord r → Passes (recordTests r)
+unfolding recordTests Passes
+of-record r v =
+    let size = and-true (of-within 1 (r .plan .tiling .width) 4096 (v .width-least) (v .width-most)) (le-leb _ _ (v .height-most)) in
+    (ap not size,
+    (ap not (of-within 1 (r .plan .inks) 256 (v .inks-least) (v .inks-most)),
+    (ap not (of-radius _ (v .lum)),
+    (ap not (of-radius _ (v .chroma)),
+    (le-ltb _ _ (v .allowed-most),
+    (le-ltb _ _ (v .done-most),
+    (le-ltb _ _ (v .phase-most),
+    (go (r .finished) (v .left),
+    (le-ltb _ _ (v .accepted-most),
+    tt)))))))))
+  where
+    go : (b : Bool) → (b ≡ false → r .done < r .plan .allowed) → (not b && leb (r .plan .allowed) (r .done)) ≡ false
+    go true f = refl
+    go false f = lt-leb _ _ (f refl)
+
+due-of : (r : JobRecord) (t : ℕ) → not (isDue r t) ≡ false → (t < tiles (r .plan .tiling)) × (inPhase (r .plan .tiling) (r .phase) t ≡ true)
+unfolding isDue
+due-of r t h = let b = both (ltb t (tiles (r .plan .tiling))) (inPhase (r .plan .tiling) (r .phase) t) (not-false _ h) in (ltb-true _ _ (b .0), b .1)
+
+of-due : (r : JobRecord) (t : ℕ) → t < tiles (r .plan .tiling) → inPhase (r .plan .tiling) (r .phase) t ≡ true → not (isDue r t) ≡ false
+unfolding isDue
+of-due r t h i = ap not (and-true (lt-ltb _ _ h) i)
+
+-- ---- the first of a phase's tiles that is not back
+
+first-le : (f : ℕ → Bool) (n : ℕ) → firstOf f n ≤ n
+unfolding firstOf
+first-le f n = upTo-ind (λ i a. a ≤ i) _ n (λ i h a p. go i a p (eqb a i) (f i)) 0 (omega arith)
+  where
+    go : (i a : ℕ) → a ≤ i → (b c : Bool) → cond b (cond c i (suc i)) a ≤ suc i
+    go i a p true true = omega arith
+    go i a p true false = omega arith
+    go i a p false c = omega arith
+
+first-none : (f : ℕ → Bool) (n : ℕ) → n ≤ firstOf f n → (i : ℕ) → i < n → f i ≡ false
+unfolding firstOf upTo
+first-none f zero h i b = absurd (omega arith)
+first-none f (suc n) h i b = go (eqb (firstOf f n) n) refl (f n) refl h (first-none f n)
+  where
+    at : f n ≡ false → firstOf f n ≡ n → (n ≤ firstOf f n → (i : ℕ) → i < n → f i ≡ false) → Dec (i ≡ n) → f i ≡ false
+    at z q ih (yes s) = rw s z
+    at z q ih (no s) = ih (omega arith) i (omega (arith, s))
+
+    go : (c : Bool) → eqb (firstOf f n) n ≡ c → (e : Bool) → f n ≡ e → suc n ≤ cond c (cond e n (suc n)) (firstOf f n) → (n ≤ firstOf f n → (i : ℕ) → i < n → f i ≡ false) → f i ≡ false
+    go true q true z h ih = absurd (omega arith)
+    go true q false z h ih = at z (eqb-true (firstOf f n) n q) ih (ℕ-discrete i n)
+    go false q e z h ih = absurd (omega (arith, first-le f n))
+
+none-first : (f : ℕ → Bool) (n : ℕ) → ((i : ℕ) → i < n → f i ≡ false) → firstOf f n ≡ n
+unfolding firstOf
+none-first f n g = upTo-ind (λ i a. a ≡ i) _ n (λ i h a e. rw (e, eq-eqb i i refl, g i h)) 0 refl
+
+pub missing-none : (r : JobRecord) (states : List ℕ) (t : ℕ) → isMissing r states t ≡ false → inPhase (r .plan .tiling) (r .phase) t ≡ true → 1 < getD states t 0
+unfolding isMissing isBack
+missing-none r states t h i = ltb-true _ _ (not-false _ (implied _ _ h i))
+
+none-missing : (r : JobRecord) (states : List ℕ) (t : ℕ) → (inPhase (r .plan .tiling) (r .phase) t ≡ true → 1 < getD states t 0) → isMissing r states t ≡ false
+unfolding isMissing isBack
+none-missing r states t f = go (inPhase (r .plan .tiling) (r .phase) t) f
+  where
+    go : (b : Bool) → (b ≡ true → 1 < getD states t 0) → (b && not (ltb 1 (getD states t 0))) ≡ false
+    go true f = ap not (lt-ltb _ _ (f refl))
+    go false f = refl
+
+-- ---- each call's tests
+
+module _ (r : JobRecord) (t : ℕ) (image : Pixels) (states : List ℕ) where
+  module _ (copy : Pixels) where
+    pub take-passes : Passes (takeTests r t image states copy) ↔ ValidTake r t image states copy
+    unfolding takeTests Passes isWaiting
+    take-passes = (
+      λ p.
+          let q = passes-append (recordTests r) _ .0 p in
+          let c = q .1 in
+          let d = due-of r t (c .1 .0) in
+          record {
+            on = record {
+              valid = record-of r (q .0);
+              unfinished = c .0;
+              tile-has = d .0;
+              due = d .1;
+              indices-length = equal-of _ _ (c .1 .1 .0);
+              cpe-length = equal-of _ _ (c .1 .1 .1 .0);
+              states-length = equal-of _ _ (c .1 .1 .1 .1 .0);
+            };
+            room = record { cpe-length = equal-of _ _ (c .1 .1 .1 .1 .1 .0); indices-length = equal-of _ _ (c .1 .1 .1 .1 .1 .1 .0) };
+            waiting = equal-of _ _ (c .1 .1 .1 .1 .1 .1 .1 .0);
+          },
+      λ v.
+          let on = v .on in
+          passes-append (recordTests r) _ .1 (of-record r (on .valid),
+          (on .unfinished,
+          (of-due r t (on .tile-has) (on .due),
+          (of-equal _ _ (on .indices-length),
+          (of-equal _ _ (on .cpe-length),
+          (of-equal _ _ (on .states-length),
+          (of-equal _ _ (v .room .cpe-length),
+          (of-equal _ _ (v .room .indices-length),
+          (of-equal _ _ (v .waiting),
+          tt))))))))),
+    )
+
+  module _ (deltas : List Float) (made : State) where
+    count-of : countTest r t (made .progress .accepted) .fails ≡ false → t < tiles (r .plan .tiling) →
+        (made .progress .accepted ≤ area (tile (r .plan .tiling) t)) × (r .accepted + made .progress .accepted ≤ pixelsOf r)
+    unfolding countTest
+    count-of h l =
+        let b = or-false (ltb (area (tile (r .plan .tiling) t)) (made .progress .accepted)) (ltb (pixelsOf r) (r .accepted + made .progress .accepted)) (implied _ _ h (lt-ltb _ _ l)) in
+        (ltb-false _ _ (b .0), ltb-false _ _ (b .1))
+
+    of-count : made .progress .accepted ≤ area (tile (r .plan .tiling) t) → r .accepted + made .progress .accepted ≤ pixelsOf r → countTest r t (made .progress .accepted) .fails ≡ false
+    unfolding countTest
+    of-count p q = rw (le-ltb _ _ p, le-ltb _ _ q) (go (ltb t (tiles (r .plan .tiling))))
+      where
+        go : (b : Bool) → (b && false) ≡ false
+        go true = refl
+        go false = refl
+
+    pub putBack-passes : Passes (putBackTests r t image states deltas made) ↔ ValidPutBack r t image states deltas made
+    unfolding putBackTests Passes isOut copyTest
+    putBack-passes = (
+      λ p.
+          let q = passes-append (recordTests r) _ .0 p in
+          let c = q .1 .1 in
+          let d = due-of r t (c .1 .0) in
+          let n = count-of (q .1 .0) (d .0) in
+          record {
+            on = record {
+              valid = record-of r (q .0);
+              unfinished = c .0;
+              tile-has = d .0;
+              due = d .1;
+              indices-length = equal-of _ _ (c .1 .1 .0);
+              cpe-length = equal-of _ _ (c .1 .1 .1 .0);
+              states-length = equal-of _ _ (c .1 .1 .1 .1 .0);
+            };
+            count-most = n .0;
+            total-most = n .1;
+            deltas-length = equal-of _ _ (c .1 .1 .1 .1 .1 .0);
+            room = record { cpe-length = equal-of _ _ (c .1 .1 .1 .1 .1 .1 .0); indices-length = equal-of _ _ (c .1 .1 .1 .1 .1 .1 .1 .0) };
+            out = equal-of _ _ (c .1 .1 .1 .1 .1 .1 .1 .1 .0);
+            named = named-of _ _ (c .1 .1 .1 .1 .1 .1 .1 .1 .1 .0);
+          },
+      λ v.
+          let on = v .on in
+          passes-append (recordTests r) _ .1 (of-record r (on .valid),
+          (of-count (v .count-most) (v .total-most),
+          (on .unfinished,
+          (of-due r t (on .tile-has) (on .due),
+          (of-equal _ _ (on .indices-length),
+          (of-equal _ _ (on .cpe-length),
+          (of-equal _ _ (on .states-length),
+          (of-equal _ _ (v .deltas-length),
+          (of-equal _ _ (v .room .cpe-length),
+          (of-equal _ _ (v .room .indices-length),
+          (of-equal _ _ (v .out),
+          (of-named _ _ (v .named),
+          tt)))))))))))),
+    )
+
+module _ (r : JobRecord) (t : ℕ) (pinned : List ℕ) (cpp : List Float) (copy : Pixels) (inks : List Float) where
+  pub work-passes : Passes (workTests r t pinned cpp copy inks) ↔ ValidWork r t pinned cpp copy inks
+  unfolding workTests Passes copyTest
+  work-passes = (
+    λ p.
+        let q = passes-append (recordTests r) _ .0 p in
+        let c = q .1 in
+        record {
+          valid = record-of r (q .0);
+          tile-has = ltb-true _ _ (not-false _ (c .0));
+          mask-length = mask-of _ _ (not-false _ (c .1 .0));
+          cpp-length = equal-of _ _ (c .1 .1 .0);
+          room = record { cpe-length = equal-of _ _ (c .1 .1 .1 .0); indices-length = equal-of _ _ (c .1 .1 .1 .1 .0) };
+          inks-length = equal-of _ _ (c .1 .1 .1 .1 .1 .0);
+          named = named-of _ _ (c .1 .1 .1 .1 .1 .1 .0);
+        },
+    λ v.
+        passes-append (recordTests r) _ .1 (of-record r (v .valid),
+        (ap not (lt-ltb _ _ (v .tile-has)),
+        (ap not (of-mask _ _ (v .mask-length)),
+        (of-equal _ _ (v .cpp-length),
+        (of-equal _ _ (v .room .cpe-length),
+        (of-equal _ _ (v .room .indices-length),
+        (of-equal _ _ (v .inks-length),
+        (of-named _ _ (v .named),
+        tt)))))))),
+  )
+
+module _ (r : JobRecord) (counts states : List ℕ) (deltas : List Float) where
+  pub close-passes : Passes (closeTests r counts states deltas) ↔ ValidClose r counts states deltas
+  unfolding closeTests Passes
+  close-passes = (
+    λ p.
+        let q = passes-append (recordTests r) _ .0 p in
+        let c = q .1 in
+        let none = first-none (isMissing r states) (tiles (r .plan .tiling)) (ltb-false _ _ (c .1 .1 .1 .1 .0)) in
+        record {
+          valid = record-of r (q .0);
+          unfinished = c .0;
+          counts-length = equal-of _ _ (c .1 .0);
+          states-length = equal-of _ _ (c .1 .1 .0);
+          deltas-length = equal-of _ _ (c .1 .1 .1 .0);
+          back = λ t h i. missing-none r states t (none t h) i;
+        },
+    λ v.
+        let n = tiles (r .plan .tiling) in
+        let all : firstOf (isMissing r states) n ≡ n = none-first (isMissing r states) n (λ t h. none-missing r states t (v .back t h)) in
+        passes-append (recordTests r) _ .1 (of-record r (v .valid),
+        (v .unfinished,
+        (of-equal _ _ (v .counts-length),
+        (of-equal _ _ (v .states-length),
+        (of-equal _ _ (v .deltas-length),
+        (le-ltb (firstOf (isMissing r states) n) n (omega (arith, all)),
+        tt)))))),
+  )

@@ -1,0 +1,12 @@
+pub mod Record
+pub mod Words
+pub mod Copy
+pub mod Open
+pub mod Take
+pub mod Work
+pub mod PutBack
+pub mod Close
+pub mod Valid
+pub mod Runs
+pub mod Claim
+pub mod Companions

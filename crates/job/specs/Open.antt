@@ -1,0 +1,79 @@
+-- Open: 'Open does all up to the walk; ledger and deltas become zero.'
+use Prim.Native.Nat.{ℕ}
+use mathlib.Core.Bool.{false, cond}
+use mathlib.Core.List.{List}
+use lib.Dec.{eqb}
+use lib.ListN.{length, replicate}
+use lib.Ieee.{Float}
+use Rattle.base.specs.declared.Status.{Status}
+use Rattle.base.specs.F64.{f0}
+use Rattle.base.specs.Refusal.{Test, judge}
+use Rattle.tiling.specs.Tiling.{tiles}
+use Rattle.input.specs.Input.{Input, inkCount, openTests}
+use Rattle.prepare.specs.Prepare.{tilingOf, inksOf, cppOf, cpeOf, errorOf}
+use Rattle.job.specs.declared.JobRecord.{JobRecord}
+use Rattle.job.specs.Record.{isAccepted}
+
+-- what an open is given: the input, the passes allowed, and the buffers lent to the job
+pub record Opening : Type 0 where
+  pub input : Input
+  pub passes : ℕ
+  pub cpe : List Float
+  pub cpp : List Float
+  pub counts : List ℕ  -- `accepted_per_pass`
+  pub states : List ℕ  -- `tile_states`
+  pub deltas : List Float
+  pub inks : List Float
+
+-- its answer, and every buffer that it writes
+pub record Opened : Type 0 where
+  pub status : Status
+  pub rec : JobRecord
+  pub cpe : List Float
+  pub cpp : List Float
+  pub states : List ℕ
+  pub deltas : List Float
+  pub inks : List Float
+
+-- rows 1 to 11
+unfoldable pub openTestsOf : Opening → List Test
+openTestsOf O =
+    openTests (O .input) (O .passes) (tiles (tilingOf (O .input)))
+    (length (O .cpe)) (length (O .cpp)) (length (O .counts)) (length (O .states)) (length (O .deltas)) (length (O .inks))
+
+-- no pass done, phase 0, no move; 'With 0 passes allowed .. an opened job is finished'
+unfoldable pub firstRecord : Opening → JobRecord
+firstRecord O = record {
+  plan = record { tiling = tilingOf (O .input); inks = inkCount (O .input); allowed = O .passes; initial = errorOf (O .input) (O .cpp) };
+  done = 0;
+  phase = 0;
+  accepted = 0;
+  error = errorOf (O .input) (O .cpp);
+  finished = eqb (O .passes) 0;
+}
+
+-- 'an open's record' on a refusal
+unfoldable pub zeroRecord : JobRecord
+zeroRecord = record {
+  plan = record { tiling = record { width = 0; height = 0; lum = 0; chroma = 0 }; inks = 0; allowed = 0; initial = f0 };
+  done = 0;
+  phase = 0;
+  accepted = 0;
+  error = f0;
+  finished = false;
+}
+
+unfoldable pub openOf : Opening → Opened
+openOf O =
+    let s = judge (openTestsOf O) in
+    let opened : Opened = record {
+      status = s;
+      rec = firstRecord O;
+      cpe = cpeOf (O .input) (O .cpp);
+      cpp = cppOf (O .input) (O .cpp);
+      states = replicate (tiles (tilingOf (O .input))) 0;
+      deltas = replicate (tiles (tilingOf (O .input))) f0;
+      inks = inksOf (O .input);
+    } in
+    let kept : Opened = record { status = s; rec = zeroRecord; cpe = O .cpe; cpp = O .cpp; states = O .states; deltas = O .deltas; inks = O .inks } in
+    cond (isAccepted s) opened kept
