@@ -75,21 +75,28 @@ fn answer(e: &DbsParams) -> String {
         return "9 1".to_string();
     }
     let kernels = eye_kernels(e);
-    let checksum = kernels.iter().flat_map(|(_, values)| values).fold(0, |h, value| {
-        let bits = value.to_bits();
-        [bits >> 32, bits % (1 << 32)].iter().fold(h, |h, half| (h * 31 + half) % 4_294_967_291)
-    });
+    let values = kernels.iter().flat_map(|(_, values)| values);
+    let checksum = checksum(values.flat_map(|value| halves(value.to_bits())));
     format!("{} {} {checksum:08x}", kernels[0].0, kernels[1].0)
 }
 
-fn eye(ppi: f64, viewing_distance_cm: f64) -> DbsParams {
+/// The high and the low 32 bits.
+pub fn halves(bits: u64) -> [u64; 2] {
+    [bits >> 32, bits % (1 << 32)]
+}
+
+pub fn checksum(words: impl Iterator<Item = u64>) -> u64 {
+    words.fold(0, |h, word| (h * 31 + word) % 4_294_967_291)
+}
+
+pub fn eye(ppi: f64, viewing_distance_cm: f64) -> DbsParams {
     DbsParams { viewing_distance_cm, ppi, max_passes: 0 }
 }
 
 /// Where `value`, growing with ppi, passes `limit`: the last eye below it, the last not above it and
 /// the first above it. The distance is the first of 50 whole ones from `from` cm on at which the
 /// second eye is exactly at the limit, or else `from` (luminance 2.5 sigma is never exactly 5).
-fn around(value: impl Fn(&DbsParams) -> f64, limit: f64, from: u32) -> [DbsParams; 3] {
+pub fn around(value: impl Fn(&DbsParams) -> f64, limit: f64, from: u32) -> [DbsParams; 3] {
     let eyes = |cm: u32| {
         let eye = |ppi: u64| eye(f64::from_bits(ppi), f64::from(cm));
         let reached = first(|ppi| value(&eye(ppi)) >= limit);

@@ -1,11 +1,19 @@
-//! Comparisons of Fidrosha with the copy of the Rust and with the standard's formula.
-//! Built and run by compare/run.
+//! Comparisons of Fidrosha with the copy of the Rust, with document 01's table of refusals and with
+//! the standard's formula. Built and run by compare/run.
 
+mod call;
+mod expected;
 mod eyes;
+mod library;
 mod light;
 mod light_table;
 mod original;
 mod plate;
+mod plates;
+mod random;
+mod refine;
+mod refusals;
+mod replay;
 
 use std::fmt::{Debug, Display};
 use std::process::ExitCode;
@@ -23,30 +31,47 @@ impl Section {
     }
 
     fn compare<T: PartialEq + Debug>(&mut self, case: impl Display, found: T, expected: T) {
+        self.check(case, (found != expected).then(|| format!("{found:?}, expected {expected:?}")));
+    }
+
+    /// Prints the first ten differences.
+    fn check(&mut self, case: impl Display, difference: Option<String>) {
         self.count += 1;
-        if found != expected {
+        if let Some(difference) = difference {
             self.differences += 1;
-            println!("{case}: {found:?}, expected {expected:?}");
+            if self.differences <= 10 {
+                println!("{}, {case}: {difference}", self.name);
+            }
         }
     }
 }
 
 fn main() -> ExitCode {
-    match std::env::args().nth(1).as_deref() {
-        None => compare(),
-        Some("--kernels") => {
-            print!("{}", eyes::list());
-            ExitCode::SUCCESS
-        }
-        Some(_) => {
-            eprintln!("usage: compare/run [--kernels]");
-            ExitCode::from(2)
+    let words: Vec<String> = std::env::args().skip(1).collect();
+    let word = |i: usize, default| words.get(i).map_or(default, String::as_str);
+    match (word(0, "1"), word(0, "1").parse(), word(1, "1").parse(), words.len()) {
+        ("--kernels", _, _, 1) => print!("{}", eyes::list()),
+        ("--replay", _, _, 1) => print!("{}", replay::text()),
+        (_, Ok(seed), Ok(scale), 0..=2) => return compare(seed, scale),
+        _ => {
+            eprintln!("usage: compare/run [SEED [SCALE]] | --kernels | --replay");
+            return ExitCode::from(2);
         }
     }
+    ExitCode::SUCCESS
 }
 
-fn compare() -> ExitCode {
-    let sections = [light::compare(), plate::compare(), eyes::compare()];
+fn compare(seed: u64, scale: f64) -> ExitCode {
+    let groups = plates::groups(seed, scale);
+    let sections = [
+        light::compare(),
+        plate::compare(),
+        eyes::compare(),
+        refine::refine(&groups),
+        refine::measure(groups),
+        refusals::compare(seed, scale),
+        replay::compare(),
+    ];
     let counts: Vec<_> = sections.iter().map(|s| format!("{} {}", s.count, s.name)).collect();
     let differences: usize = sections.iter().map(|s| s.differences).sum();
     println!("compare: {}, {differences} differences", counts.join(", "));

@@ -1,7 +1,7 @@
 // A copy of packages/rust/core/src/dbs.rs, with what it needs of color_space.rs, lab.rs and
 // srgb_palette.rs, from OpenDisplay/epaper-dithering 998989b402 (MIT: see NOTICE). Order and names
-// are the original's; each comment `stand-in` marks a change that document 01 makes for comparing.
-// The accessors at the end are not in the original.
+// are the original's; each comment `stand-in` marks a change that document 01 makes for comparing, each
+// `accessor` one that only hands out what was computed. The accessors at the end are not in the original.
 
 // Portions of this file are derived from OpenDithering's `src/dithering/dbs.ts`
 // (https://github.com/guysie/opendithering), used under the MIT License:
@@ -512,7 +512,7 @@ pub fn dbs_refine(
     indices: &mut [u8],
     pinned: Option<&[bool]>,
     params: &DbsParams,
-) -> DbsStats {
+) -> (DbsStats, Kept) { // accessor: also what the original drops
     let n_px = width * height;
     assert_eq!(indices.len(), n_px, "index buffer size mismatch");
     if let Some(p) = pinned {
@@ -592,12 +592,13 @@ pub fn dbs_refine(
         }
     }
 
-    DbsStats {
+    let stats = DbsStats {
         passes: accepted_per_pass.len() as u32,
         accepted_per_pass,
         initial_error,
         final_error: err,
-    }
+    };
+    (stats, Kept { cpe, cpp: [cpp_lum.data, cpp_chroma.data], inks }) // accessor
 }
 
 /// Perceived error `Σ_ch Σ_m ((p_ch ∗ e_ch)(m))²` of `indices` against `pixels`, computed
@@ -643,6 +644,13 @@ pub fn perceived_error(
 }
 
 // Accessors for the comparison.
+
+/// What a run of `dbs_refine` leaves: `c_pe` at its end, the values of `c_pp` and the inks in YyCxCz.
+pub struct Kept {
+    pub cpe: Vec<[f64; 3]>,
+    pub cpp: [Vec<f64>; 2],
+    pub inks: Vec<[f64; 3]>,
+}
 
 /// Blur widths in pixels, `[luminance, chrominance]`.
 pub fn eye_sigmas(params: &DbsParams) -> [f64; 2] {

@@ -12,7 +12,7 @@ pub fn compare() -> Section {
 
     let mut indices = [1, 0];
     let before = measure(&indices);
-    let stats = dbs_refine(&pixels, 2, 1, &palette, &mut indices, None, &params);
+    let (stats, _) = dbs_refine(&pixels, 2, 1, &palette, &mut indices, None, &params);
     section.compare("indices", indices, [0, 1]);
     section.compare("passes", stats.passes, 2);
     section.compare("accepted", stats.accepted_per_pass, vec![1, 0]);

@@ -1,0 +1,92 @@
+//! What refine and measure are given and what they answer. Floats of buffers and answers are bits.
+
+/// The arguments of `dbs_refine`; `perceived_error` takes those that it has.
+#[derive(Clone)]
+pub struct Call {
+    pub width: u64,
+    pub height: u64,
+    pub pixels: Vec<u8>,
+    pub palette: Vec<u8>,
+    pub pinned: Vec<u8>,
+    pub ppi: f64,
+    pub viewing_distance_cm: f64,
+    pub max_passes: u64,
+    pub lent: Buffers,
+}
+
+/// What refine is lent.
+#[derive(Clone)]
+pub struct Buffers {
+    pub indices: Vec<u8>,
+    pub cpe: Vec<u64>,
+    pub cpp: Vec<u64>,
+    pub accepted_per_pass: Vec<u32>,
+    pub inks: Vec<u64>,
+}
+
+/// The answer of refine, and what was lent, afterwards.
+pub struct Refined {
+    pub number: u64,
+    pub place: u64,
+    pub passes: u64,
+    pub initial_error: u64,
+    pub final_error: u64,
+    pub lent: Buffers,
+}
+
+/// The answer of measure.
+pub struct Measured {
+    pub number: u64,
+    pub place: u64,
+    pub error: u64,
+}
+
+pub const CPP_LEN: usize = 8450;
+pub const CPP_CHROMA: usize = 4225;
+
+impl Call {
+    /// The buffers as long as document 01 wants them. A cell holds a pattern of its own, for floats
+    /// the bits of a NaN, which no computation leaves.
+    pub fn lend(&mut self) {
+        let floats = |len: usize, name: u64| (0..len as u64).map(|i| 0x7ff4_0000_0000_0000 + (name << 32) + i).collect();
+        self.lent.cpe = floats(self.pixels.len(), 1);
+        self.lent.cpp = floats(CPP_LEN, 2);
+        self.lent.accepted_per_pass = (0..self.max_passes as u32).map(|i| 0xc0de_0000 + i).collect();
+        self.lent.inks = floats(self.palette.len(), 3);
+    }
+
+    pub fn same_to_measure(&self, other: &Self) -> bool {
+        let image = |c: &Self| (c.width, c.height, c.ppi, c.viewing_distance_cm);
+        let bytes = |c: &Self| [&c.pixels, &c.palette, &c.lent.indices].map(Vec::clone);
+        image(self) == image(other) && bytes(self) == bytes(other)
+    }
+}
+
+impl Refined {
+    /// The first cell that differs, if any does.
+    pub fn difference(&self, expected: &Self) -> Option<String> {
+        let answer = |r: &Self| [r.number, r.place, r.passes, r.initial_error, r.final_error];
+        let (a, b) = (&self.lent, &expected.lent);
+        first("answer", &answer(self), &answer(expected))
+            .or_else(|| first("indices", &a.indices, &b.indices))
+            .or_else(|| first("accepted_per_pass", &a.accepted_per_pass, &b.accepted_per_pass))
+            .or_else(|| first("inks", &a.inks, &b.inks))
+            .or_else(|| first("cpp", &a.cpp, &b.cpp))
+            .or_else(|| first("cpe", &a.cpe, &b.cpe))
+    }
+}
+
+impl Measured {
+    pub fn difference(&self, expected: &Self) -> Option<String> {
+        let answer = |m: &Self| [m.number, m.place, m.error];
+        first("answer", &answer(self), &answer(expected))
+    }
+}
+
+fn first<T: PartialEq + std::fmt::LowerHex>(name: &str, found: &[T], expected: &[T]) -> Option<String> {
+    if found.len() != expected.len() {
+        return Some(format!("{} cells of {name}, expected {}", found.len(), expected.len()));
+    }
+    let (i, (a, b)) = found.iter().zip(expected).enumerate().find(|(_, (a, b))| a != b)?;
+    Some(format!("{name} {i}: {a:x}, expected {b:x}"))
+}

@@ -1,0 +1,91 @@
+//! What document 01 says of an input, and the copy of the Rust where the input is accepted.
+
+use crate::call::{Call, Measured, Refined, CPP_CHROMA, CPP_LEN};
+use crate::original::{dbs_refine, eye_sigmas, perceived_error, DbsParams, SrgbPalette};
+
+pub fn refine(call: &Call) -> Refined {
+    let (number, place) = refusal(call, false);
+    let mut lent = call.lent.clone();
+    if number > 0 {
+        return Refined { number, place, passes: 0, initial_error: 0, final_error: 0, lent };
+    }
+    let pinned: Vec<bool> = call.pinned.iter().map(|&byte| byte != 0).collect();
+    let (stats, kept) = dbs_refine(
+        &call.pixels,
+        call.width as usize,
+        call.height as usize,
+        &palette(call),
+        &mut lent.indices,
+        (!pinned.is_empty()).then_some(&pinned[..]),
+        &params(call),
+    );
+    let put = |cells: &mut [u64], values: &[f64]| {
+        for (cell, value) in cells.iter_mut().zip(values) {
+            *cell = value.to_bits();
+        }
+    };
+    put(&mut lent.cpe, kept.cpe.as_flattened());
+    put(&mut lent.cpp, &kept.cpp[0]);
+    put(&mut lent.cpp[CPP_CHROMA..], &kept.cpp[1]);
+    put(&mut lent.inks, kept.inks.as_flattened());
+    for (cell, &accepted) in lent.accepted_per_pass.iter_mut().zip(&stats.accepted_per_pass) {
+        *cell = accepted as u32;
+    }
+    Refined {
+        number,
+        place,
+        passes: u64::from(stats.passes),
+        initial_error: stats.initial_error.to_bits(),
+        final_error: stats.final_error.to_bits(),
+        lent,
+    }
+}
+
+pub fn measure(call: &Call) -> Measured {
+    let (number, place) = refusal(call, true);
+    if number > 0 {
+        return Measured { number, place, error: 0 };
+    }
+    let (width, height) = (call.width as usize, call.height as usize);
+    let error = perceived_error(&call.pixels, width, height, &palette(call), &call.lent.indices, &params(call));
+    Measured { number, place, error: error.to_bits() }
+}
+
+/// Number and place of the first row of document 01's table that holds, or 0, 0. Measuring is given
+/// no mask, no passes and no buffers.
+pub fn refusal(call: &Call, measuring: bool) -> (u64, u64) {
+    if call.width < 1 || 4096 < call.width || 4096 < call.height {
+        return (1, 0);
+    }
+    let n = call.width as usize * call.height as usize;
+    let inks = call.palette.len() / 3;
+    let lent = &call.lent;
+    let unnamed = lent.indices.iter().position(|&index| usize::from(index) >= inks);
+    let usable = |x: f64| x.is_finite() && x > 0.0;
+    let [luminance, chrominance] = eye_sigmas(&params(call));
+    let rows = [
+        (2, 0, call.pixels.len() != 3 * n),
+        (3, 0, lent.indices.len() != n),
+        (4, 0, !measuring && call.pinned.len() != 0 && call.pinned.len() != n),
+        (5, 0, call.palette.len() % 3 != 0 || inks < 1 || 256 < inks),
+        (6, unnamed.unwrap_or(0) as u64, unnamed.is_some()),
+        (7, 0, !usable(call.ppi)),
+        (8, 0, !usable(call.viewing_distance_cm)),
+        (9, 0, luminance < 0.05),
+        (9, 1, 2.5 * chrominance > 16.0),
+        (10, 0, !measuring && call.max_passes > 1000),
+        (11, 1, !measuring && lent.cpe.len() != 3 * n),
+        (11, 2, !measuring && lent.cpp.len() != CPP_LEN),
+        (11, 3, !measuring && lent.accepted_per_pass.len() as u64 != call.max_passes),
+        (11, 8, !measuring && lent.inks.len() != 3 * inks),
+    ];
+    rows.into_iter().find(|row| row.2).map_or((0, 0), |(number, place, _)| (number, place))
+}
+
+fn palette(call: &Call) -> SrgbPalette {
+    SrgbPalette { colors: call.palette.chunks_exact(3).map(|c| [c[0], c[1], c[2]]).collect() }
+}
+
+fn params(call: &Call) -> DbsParams {
+    DbsParams { viewing_distance_cm: call.viewing_distance_cm, ppi: call.ppi, max_passes: call.max_passes as u32 }
+}

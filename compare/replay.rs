@@ -1,0 +1,253 @@
+//! The list of replay.txt: calls with their answers, for a program that makes them anew.
+
+use crate::call::{Call, Measured, Refined};
+use crate::eyes::{around, checksum, eye, halves};
+use crate::original::{eye_sigmas, DbsParams};
+use crate::plates::{call, plate, program_plate, random_eye, reach};
+use crate::random::Random;
+use crate::{expected, library, Section};
+
+const HEADER: &str = "\
+# Calls of refine and measure with their answers, by document 01's table of refusals and the copy of
+# the Rust, made with
+#   compare/run --replay > compare/replay.txt
+# Three lines for a call; words are separated by one space, and none is empty.
+#   call WIDTH HEIGHT MAX_PASSES PPI DISTANCE PIXELS PALETTE PINNED INDICES CPE CPP COUNTS INKS
+#   refine NUMBER PLACE PASSES INITIAL FINAL INDICES COUNTS CPE CPP COUNTS INKS
+#   measure NUMBER PLACE ERROR
+# WIDTH, HEIGHT, MAX_PASSES, NUMBER, PLACE, PASSES: decimal. PPI, DISTANCE, INITIAL, FINAL, ERROR: the
+# bits of an f64, 16 hexadecimal digits. PIXELS, PALETTE, PINNED, INDICES: bytes of 2 hexadecimal
+# digits, or - for none; of refine, the indices afterwards.
+# Last in a call: the lengths of the lent buffers, decimal. Before the call each cell of cpe, cpp and
+# inks holds the bits bff0000000000000 (-1.0), each count 4294967295.
+# COUNTS of refine, the first: those of the passes run, decimal, joined by commas, or - for none. Its
+# last four words are checksums of the buffers afterwards, untouched cells too, 8 hexadecimal digits:
+# h = 0; for each cell, of an f64 first the high and then the low 32 bits, h becomes
+# (31 h + those 32 bits) mod 4294967291.
+";
+
+/// replay.txt against the list made anew, and against what the library answers.
+pub fn compare() -> Section {
+    let mut section = Section::new("lines of replay.txt");
+    let lists = [list(expected::refine, expected::measure), list(library::refine, library::measure)];
+    let lines = |text: &'static str| text.lines().filter(|line| !line.starts_with('#')).collect::<Vec<_>>();
+    let kept = lines(include_str!("replay.txt"));
+    for made in lists {
+        let made = lines(made.leak());
+        for i in 0..kept.len().max(made.len()) {
+            section.compare(format_args!("line {i}"), kept.get(i), made.get(i));
+        }
+    }
+    section
+}
+
+/// The text of replay.txt.
+pub fn text() -> String {
+    HEADER.to_string() + &list(expected::refine, expected::measure)
+}
+
+fn list(refine: fn(&Call) -> Refined, measure: fn(&Call) -> Measured) -> String {
+    let mut text = String::new();
+    for (title, calls) in groups() {
+        text += &format!("# {title}\n");
+        for call in &calls {
+            text += &format!("{}\n{}\n{}\n", call_line(call), refine_line(&refine(call)), measure_line(&measure(call)));
+        }
+    }
+    text
+}
+
+pub fn call_line(call: &Call) -> String {
+    let [ppi, distance] = [call.ppi, call.viewing_distance_cm].map(f64::to_bits);
+    let [pixels, palette, pinned, indices] =
+        [&call.pixels, &call.palette, &call.pinned, &call.lent.indices].map(|bytes| hexadecimal(bytes));
+    let lent = &call.lent;
+    let [cpe, cpp, inks] = [&lent.cpe, &lent.cpp, &lent.inks].map(Vec::len);
+    format!(
+        "call {} {} {} {ppi:016x} {distance:016x} {pixels} {palette} {pinned} {indices} {cpe} {cpp} {} {inks}",
+        call.width,
+        call.height,
+        call.max_passes,
+        lent.accepted_per_pass.len()
+    )
+}
+
+fn refine_line(r: &Refined) -> String {
+    let floats = |cells: &[u64]| checksum(cells.iter().flat_map(|&bits| halves(bits)));
+    let counts: Vec<_> = r.lent.accepted_per_pass[..r.passes as usize].iter().map(u32::to_string).collect();
+    format!(
+        "refine {} {} {} {:016x} {:016x} {} {} {:08x} {:08x} {:08x} {:08x}",
+        r.number,
+        r.place,
+        r.passes,
+        r.initial_error,
+        r.final_error,
+        hexadecimal(&r.lent.indices),
+        or_none(counts.join(",")),
+        floats(&r.lent.cpe),
+        floats(&r.lent.cpp),
+        checksum(r.lent.accepted_per_pass.iter().map(|&count| u64::from(count))),
+        floats(&r.lent.inks),
+    )
+}
+
+fn measure_line(m: &Measured) -> String {
+    format!("measure {} {} {:016x}", m.number, m.place, m.error)
+}
+
+fn hexadecimal(bytes: &[u8]) -> String {
+    or_none(bytes.iter().map(|byte| format!("{byte:02x}")).collect())
+}
+
+fn or_none(word: String) -> String {
+    if word.is_empty() { "-".to_string() } else { word }
+}
+
+fn groups() -> Vec<(&'static str, Vec<Call>)> {
+    let plates = [
+        ("The input of program plate.", vec![program_plate()]),
+        ("No row; one pixel; one ink.", no_row_one_pixel()),
+        ("Pins: none, the first, the second, both; any byte but 0.", pins()),
+        ("Equal inks.", equal_inks()),
+        ("0, 1, 2, 10 and 1,000 passes allowed.", passes()),
+        ("The smallest eye, kernel radius 30, 32, and 32 at the limit.", eyes()),
+        ("256 inks.", vec![lively(&mut Random(3), 4, 3, 256, allowed(10))]),
+        ("Two tiles: sides of 64, then of 67.", tiles()),
+        ("Random plates.", random()),
+    ];
+    let fill = |mut calls: Vec<Call>| {
+        for call in &mut calls {
+            call.lend();
+            let lent = &mut call.lent;
+            for cells in [&mut lent.cpe, &mut lent.cpp, &mut lent.inks] {
+                cells.fill((-1.0_f64).to_bits());
+            }
+            lent.accepted_per_pass.fill(u32::MAX);
+        }
+        calls
+    };
+    let mut groups: Vec<_> = plates.into_iter().map(|(title, calls)| (title, fill(calls))).collect();
+    groups.push(("Refusals.", refusals(&fill(vec![program_plate()])[0])));
+    groups
+}
+
+const BLACK_WHITE: [u8; 6] = [0, 0, 0, 255, 255, 255];
+
+fn allowed(max_passes: u32) -> DbsParams {
+    DbsParams { max_passes, ..DbsParams::default() }
+}
+
+fn no_row_one_pixel() -> Vec<Call> {
+    let red = [200, 30, 30];
+    vec![
+        call(4096, 0, &[], &BLACK_WHITE, &[], &[], allowed(2)),
+        call(1, 0, &[], &BLACK_WHITE, &[], &[], allowed(0)),
+        call(1, 1, &red, &BLACK_WHITE, &[1], &[], allowed(3)),
+        call(1, 1, &red, &red, &[0], &[0], allowed(3)),
+    ]
+}
+
+fn pins() -> Vec<Call> {
+    let masks: [&[u8]; 4] = [&[0, 0], &[128, 0], &[0, 3], &[255, 16]];
+    masks.map(|pinned| call(2, 1, &[20, 20, 90, 250, 240, 190], &BLACK_WHITE, &[1, 0], pinned, allowed(10))).to_vec()
+}
+
+/// Inks 1 and 2 are equal: of equal costs the first counts.
+fn equal_inks() -> Vec<Call> {
+    let palette = [BLACK_WHITE, [255, 255, 255, 200, 30, 30]].concat();
+    [[0, 0, 0, 0], [2, 0, 1, 3]]
+        .map(|start| call(4, 1, &[240, 240, 240, 9, 9, 9, 250, 90, 90, 255, 255, 255], &palette, &start, &[], allowed(10)))
+        .to_vec()
+}
+
+/// The first random plate that the copy of the Rust moves in two passes or more.
+fn lively(r: &mut Random, width: u64, height: u64, inks: u64, params: DbsParams) -> Call {
+    loop {
+        let mut call = plate(r, width, height, inks, params);
+        call.lend();
+        let refined = expected::refine(&call);
+        if refined.passes > 1 && refined.lent.accepted_per_pass[1] > 0 {
+            return call;
+        }
+    }
+}
+
+fn passes() -> Vec<Call> {
+    let call = lively(&mut Random(11), 5, 4, 4, allowed(10));
+    [0, 1, 2, 10, 1000].map(|max_passes| Call { max_passes, ..call.clone() }).to_vec()
+}
+
+fn eyes() -> Vec<Call> {
+    let mut r = Random(5);
+    let [_, smallest, _] = around(|e| eye_sigmas(e)[0], 0.05, 10);
+    [smallest, reach(15, 1.0), reach(16, 0.5), reach(16, 1.0)]
+        .map(|eye| lively(&mut r, 4, 3, 4, DbsParams { max_passes: 10, ..eye }))
+        .to_vec()
+}
+
+fn tiles() -> Vec<Call> {
+    let mut r = Random(9);
+    let wide = DbsParams { max_passes: 3, ..reach(16, 1.0) };
+    vec![
+        lively(&mut r, 70, 3, 2, allowed(4)),
+        lively(&mut r, 2, 67, 3, allowed(4)),
+        lively(&mut r, 69, 2, 2, wide),
+        lively(&mut r, 1, 70, 3, wide),
+    ]
+}
+
+fn random() -> Vec<Call> {
+    let mut r = Random(7);
+    (0..16)
+        .map(|_| {
+            let (width, height, inks) = (r.between(2, 5), r.between(2, 4), r.between(2, 6));
+            let eye = random_eye(&mut r);
+            lively(&mut r, width, height, inks, DbsParams { max_passes: 10, ..eye })
+        })
+        .collect()
+}
+
+/// Each number and place, and several at once: the lowest number counts.
+fn refusals(plate: &Call) -> Vec<Call> {
+    let [_, at, above] = around(|e| 2.5 * eye_sigmas(e)[1], 16.0, 10);
+    let [below, ..] = around(|e| eye_sigmas(e)[0], 0.05, 10);
+    let look = |c: &mut Call, e: DbsParams| (c.ppi, c.viewing_distance_cm) = (e.ppi, e.viewing_distance_cm);
+    let changes: [&dyn Fn(&mut Call); 29] = [
+        &|c| c.width = 0,
+        &|c| c.width = 4097,
+        &|c| c.height = 4097,
+        &|c| c.height = u64::MAX,
+        &|c| (c.width, c.height) = (2, (1 << 63) + 1),
+        &|c| c.pixels.push(0),
+        &|c| c.lent.indices.truncate(1),
+        &|c| c.pinned.push(0),
+        &|c| c.palette.truncate(0),
+        &|c| c.palette.truncate(5),
+        &|c| c.palette.resize(771, 90),
+        &|c| c.lent.indices[0] = 2,
+        &|c| c.lent.indices[1] = 255,
+        &|c| c.ppi = f64::NAN,
+        &|c| c.ppi = -0.0,
+        &|c| c.viewing_distance_cm = f64::INFINITY,
+        &|c| look(c, below),
+        &|c| look(c, above),
+        &|c| look(c, eye(f64::MAX, f64::MAX)),
+        &|c| c.max_passes = 1001,
+        &|c| c.max_passes = u64::MAX,
+        &|c| c.lent.cpe.truncate(5),
+        &|c| c.lent.cpp.truncate(8449),
+        &|c| c.lent.accepted_per_pass.push(u32::MAX),
+        &|c| c.lent.inks.truncate(0),
+        &|c| (c.palette.truncate(2), c.lent.indices.fill(9)).1,
+        &|c| (c.lent.indices[1], c.ppi, c.viewing_distance_cm) = (7, 0.0, 0.0),
+        &|c| (look(c, at), c.max_passes = 1001, c.lent.cpe.truncate(0)).0,
+        &|c| (c.lent.cpp.push((-1.0_f64).to_bits()), c.lent.inks.truncate(1)).0,
+    ];
+    changes
+        .map(|change| {
+            let mut call = plate.clone();
+            change(&mut call);
+            call
+        })
+        .to_vec()
+}
