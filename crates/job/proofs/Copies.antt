@@ -68,6 +68,6 @@ pub made-fits : (S : Shared) (t : ℕ) (copy : Pixels) → t < tiles (S .tiling)
 unfolding refinedCopy
 made-fits S t copy h f =
     let start : Sound S (region (S .tiling) t) (copy .indices) (3 * area (region (S .tiling) t)) (state (copy .cpe) (copy .indices) noProgress) =
-        record { cpe = f .cpe; room = f .indices; named = f .named; pins = λ u v i p. refl } in
+    record { cpe = f .cpe; room = f .indices; named = f .named; pins = λ u v i p. refl } in
     let k = tile-sound S (region (S .tiling) t) (tile (S .tiling) t) (copy .indices) _ _ (region-covers (S .tiling) t h) start in
     record { cpe = k .cpe; indices = k .room; named = k .named }

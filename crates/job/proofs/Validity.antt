@@ -92,17 +92,34 @@ record-of r p =
 of-record : (r : JobRecord) → ValidRecord r → Passes (recordTests r)
 unfolding recordTests Passes
 of-record r v =
-    let size = and-true (of-within 1 (r .plan .tiling .width) 4096 (v .width-least) (v .width-most)) (le-leb _ _ (v .height-most)) in
-    (ap not size,
-    (ap not (of-within 1 (r .plan .inks) 256 (v .inks-least) (v .inks-most)),
-    (ap not (of-radius _ (v .lum)),
-    (ap not (of-radius _ (v .chroma)),
-    (le-ltb _ _ (v .allowed-most),
-    (le-ltb _ _ (v .done-most),
-    (le-ltb _ _ (v .phase-most),
-    (go (r .finished) (v .left),
-    (le-ltb _ _ (v .accepted-most),
-    tt)))))))))
+    let size = and-true (of-within 1 (r .plan .tiling .width) 4096 (v .width-least) (v .width-most)) (le-leb _ _ (v .height-most)) in (
+      ap not size,
+      (
+        ap not (of-within 1 (r .plan .inks) 256 (v .inks-least) (v .inks-most)),
+        (
+          ap not (of-radius _ (v .lum)),
+          (
+            ap not (of-radius _ (v .chroma)),
+            (
+              le-ltb _ _ (v .allowed-most),
+              (
+                le-ltb _ _ (v .done-most),
+                (
+                  le-ltb _ _ (v .phase-most),
+                  (
+                    go (r .finished) (v .left),
+                    (
+                      le-ltb _ _ (v .accepted-most),
+                      tt,
+                    ),
+                  ),
+                ),
+              ),
+            ),
+          ),
+        ),
+      ),
+    )
   where
     go : (b : Bool) → (b ≡ false → r .done < r .plan .allowed) → (not b && leb (r .plan .allowed) (r .done)) ≡ false
     go true f = refl
@@ -183,16 +200,34 @@ module _ (r : JobRecord) (t : ℕ) (image : Pixels) (states : List ℕ) where
           },
       λ v.
           let on = v .on in
-          passes-append (recordTests r) _ .1 (of-record r (on .valid),
-          (on .unfinished,
-          (of-due r t (on .tile-has) (on .due),
-          (of-equal _ _ (on .indices-length),
-          (of-equal _ _ (on .cpe-length),
-          (of-equal _ _ (on .states-length),
-          (of-equal _ _ (v .room .cpe-length),
-          (of-equal _ _ (v .room .indices-length),
-          (of-equal _ _ (v .waiting),
-          tt))))))))),
+          passes-append (recordTests r) _ .1 (
+            of-record r (on .valid),
+            (
+              on .unfinished,
+              (
+                of-due r t (on .tile-has) (on .due),
+                (
+                  of-equal _ _ (on .indices-length),
+                  (
+                    of-equal _ _ (on .cpe-length),
+                    (
+                      of-equal _ _ (on .states-length),
+                      (
+                        of-equal _ _ (v .room .cpe-length),
+                        (
+                          of-equal _ _ (v .room .indices-length),
+                          (
+                            of-equal _ _ (v .waiting),
+                            tt,
+                          ),
+                        ),
+                      ),
+                    ),
+                  ),
+                ),
+              ),
+            ),
+          ),
     )
 
   module _ (deltas : List Float) (made : State) where
@@ -238,19 +273,43 @@ module _ (r : JobRecord) (t : ℕ) (image : Pixels) (states : List ℕ) where
           },
       λ v.
           let on = v .on in
-          passes-append (recordTests r) _ .1 (of-record r (on .valid),
-          (of-count (v .count-most) (v .total-most),
-          (on .unfinished,
-          (of-due r t (on .tile-has) (on .due),
-          (of-equal _ _ (on .indices-length),
-          (of-equal _ _ (on .cpe-length),
-          (of-equal _ _ (on .states-length),
-          (of-equal _ _ (v .deltas-length),
-          (of-equal _ _ (v .room .cpe-length),
-          (of-equal _ _ (v .room .indices-length),
-          (of-equal _ _ (v .out),
-          (of-named _ _ (v .named),
-          tt)))))))))))),
+          passes-append (recordTests r) _ .1 (
+            of-record r (on .valid),
+            (
+              of-count (v .count-most) (v .total-most),
+              (
+                on .unfinished,
+                (
+                  of-due r t (on .tile-has) (on .due),
+                  (
+                    of-equal _ _ (on .indices-length),
+                    (
+                      of-equal _ _ (on .cpe-length),
+                      (
+                        of-equal _ _ (on .states-length),
+                        (
+                          of-equal _ _ (v .deltas-length),
+                          (
+                            of-equal _ _ (v .room .cpe-length),
+                            (
+                              of-equal _ _ (v .room .indices-length),
+                              (
+                                of-equal _ _ (v .out),
+                                (
+                                  of-named _ _ (v .named),
+                                  tt,
+                                ),
+                              ),
+                            ),
+                          ),
+                        ),
+                      ),
+                    ),
+                  ),
+                ),
+              ),
+            ),
+          ),
     )
 
 module _ (r : JobRecord) (t : ℕ) (pinned : List ℕ) (cpp : List Float) (copy : Pixels) (inks : List Float) where
@@ -270,15 +329,31 @@ module _ (r : JobRecord) (t : ℕ) (pinned : List ℕ) (cpp : List Float) (copy 
           named = named-of _ _ (c .1 .1 .1 .1 .1 .1 .0);
         },
     λ v.
-        passes-append (recordTests r) _ .1 (of-record r (v .valid),
-        (ap not (lt-ltb _ _ (v .tile-has)),
-        (ap not (of-mask _ _ (v .mask-length)),
-        (of-equal _ _ (v .cpp-length),
-        (of-equal _ _ (v .room .cpe-length),
-        (of-equal _ _ (v .room .indices-length),
-        (of-equal _ _ (v .inks-length),
-        (of-named _ _ (v .named),
-        tt)))))))),
+        passes-append (recordTests r) _ .1 (
+          of-record r (v .valid),
+          (
+            ap not (lt-ltb _ _ (v .tile-has)),
+            (
+              ap not (of-mask _ _ (v .mask-length)),
+              (
+                of-equal _ _ (v .cpp-length),
+                (
+                  of-equal _ _ (v .room .cpe-length),
+                  (
+                    of-equal _ _ (v .room .indices-length),
+                    (
+                      of-equal _ _ (v .inks-length),
+                      (
+                        of-named _ _ (v .named),
+                        tt,
+                      ),
+                    ),
+                  ),
+                ),
+              ),
+            ),
+          ),
+        ),
   )
 
 module _ (r : JobRecord) (counts states : List ℕ) (deltas : List Float) where
@@ -300,11 +375,23 @@ module _ (r : JobRecord) (counts states : List ℕ) (deltas : List Float) where
     λ v.
         let n = tiles (r .plan .tiling) in
         let all : firstOf (isMissing r states) n ≡ n = none-first (isMissing r states) n (λ t h. none-missing r states t (v .back t h)) in
-        passes-append (recordTests r) _ .1 (of-record r (v .valid),
-        (v .unfinished,
-        (of-equal _ _ (v .counts-length),
-        (of-equal _ _ (v .states-length),
-        (of-equal _ _ (v .deltas-length),
-        (le-ltb (firstOf (isMissing r states) n) n (omega (arith, all)),
-        tt)))))),
+        passes-append (recordTests r) _ .1 (
+          of-record r (v .valid),
+          (
+            v .unfinished,
+            (
+              of-equal _ _ (v .counts-length),
+              (
+                of-equal _ _ (v .states-length),
+                (
+                  of-equal _ _ (v .deltas-length),
+                  (
+                    le-ltb (firstOf (isMissing r states) n) n (omega (arith, all)),
+                    tt,
+                  ),
+                ),
+              ),
+            ),
+          ),
+        ),
   )

@@ -59,7 +59,7 @@ unfoldable pub putBackOf : JobRecord → ℕ → Pixels → List ℕ → List Fl
 putBackOf r t image states deltas made =
     let s = judge (putBackTests r t image states deltas made) in
     let back =
-        putBack s (withProgress r (made .progress)) (writtenBack (r .plan .tiling) t image (pixels (made .cpe) (made .indices)))
-        (set states t 2) (set deltas t (made .progress .delta)) in
+    putBack s (withProgress r (made .progress)) (writtenBack (r .plan .tiling) t image (pixels (made .cpe) (made .indices)))
+    (set states t 2) (set deltas t (made .progress .delta)) in
     let kept = putBack s r image states deltas in
     cond (isAccepted s) back kept
