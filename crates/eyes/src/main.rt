@@ -4,7 +4,6 @@
 use eye::DbsParams;
 use kernel::CPP_CHROMA;
 ghost use mathlib.Core.Path.{_≡_};
-ghost use Prim.Native.Nat.{_<_};
 ghost use lib.ListN.{length};
 ghost use Rattle.base.specs.Refusal.{judge, accepted};
 ghost use Rattle.eye.specs.Eye.{eyeTests, KernelRadius};
@@ -143,43 +142,6 @@ const EYES: [u64; 126] = [
     0x7fefffffffffffff,
 ];
 
-// The f64 of these bits, 0.0 for those of a NaN.
-fn value(bits: u64) -> f64 {
-    if bits % 0x8000_0000_0000_0000 > 0x7ff0_0000_0000_0000 {
-        return 0.0;
-    }
-    f64::from_bits(bits)
-}
-
-// The bits of x, 0 for a NaN.
-fn bits(x: f64) -> u64 {
-    if x == x {
-        return f64::to_bits(x);
-    }
-    0
-}
-
-// One step of the checksum.
-fn mix(h: u64, half: u64) -> u64
-    requires { ⌜ (h < 4294967291) × (half < 4294967296) ⌝ }
-    ensures { λ r. ⌜ r < 4294967291 ⌝ }
-{
-    (31 * h + half) % 4294967291
-}
-
-// The checksum h, carried on over a kernel: of each value first the high and then the low 32 bits.
-fn checksum(h: u64, kernel: &[f64]) -> u64
-    requires { ⌜ h < 4294967291 ⌝ }
-    ensures { λ r. ⌜ r < 4294967291 ⌝ }
-{
-    let mut sum = h;
-    for i in 0..kernel.len() {
-        let b = bits(kernel[i]);
-        sum = mix(mix(sum, b / 4294967296), b % 4294967296);
-    }
-    sum
-}
-
 // Computes both kernels of an accepted eye into cpp and gives their checksum.
 fn kernels(params: DbsParams, lum_radius: usize, chroma_radius: usize, cpp: &mut [f64]) -> u64
     requires { ⌜ (judge (eyeTests params) ≡ accepted) × KernelRadius «lum_radius» × KernelRadius «chroma_radius» × (length (now cpp) ≡ 8450) ⌝ }
@@ -189,8 +151,8 @@ fn kernels(params: DbsParams, lum_radius: usize, chroma_radius: usize, cpp: &mut
     let lum_end = lum_size * lum_size;
     let chroma_size = 2 * chroma_radius + 1;
     let chroma_end = CPP_CHROMA + chroma_size * chroma_size;
-    let h = checksum(0, &cpp[..lum_end]);
-    checksum(h, &cpp[CPP_CHROMA..chroma_end])
+    let h = checksum::floats(0, &cpp[..lum_end]);
+    checksum::floats(h, &cpp[CPP_CHROMA..chroma_end])
 }
 
 fn two(a: u64, b: u64) {
@@ -223,8 +185,8 @@ fn line(ppi: u64, distance: u64, cpp: &mut [f64])
     io::write_all(STDOUT, b" ");
     io::print_hex(STDOUT, distance, 16);
     let params = DbsParams {
-        viewing_distance_cm: value(distance),
-        ppi: value(ppi),
+        viewing_distance_cm: checksum::value(distance),
+        ppi: checksum::value(ppi),
     };
     answer(params, cpp);
     io::write_all(STDOUT, b"\n");

@@ -36,7 +36,7 @@ pub is-accepted : isAccepted accepted ≡ true
 unfolding isAccepted
 is-accepted = refl
 
-pub not-accepted : (s : Status) → s ≢ accepted → isAccepted s ≡ false
+not-accepted : (s : Status) → s ≢ accepted → isAccepted s ≡ false
 not-accepted s n = go (isAccepted s) refl
   where
     go : (b : Bool) → isAccepted s ≡ b → b ≡ false

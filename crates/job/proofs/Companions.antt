@@ -151,7 +151,7 @@ doubles : (O : Opening) (J : Job) → Reached O J → Doubles (J .rec)
 unfolding Fine
 doubles O J r =
     let k = reached-mid O J r in
-    record { initial = rw (ap (λ (p : Plan). p .initial) (k .1 .planned)) (initial-fine O); error = rw (k .1 .error) (walk-fine O (k .0)) }
+    record { initial = rw (ap (λ (p : Plan). p .initial) (k .1 .recorded .planned)) (initial-fine O); error = rw (k .1 .recorded .error) (walk-fine O (k .0)) }
 
 pub round-trip : RoundTrip
 round-trip = record { encoded = encoded; over = over; unchanged = unchanged; reached = doubles }
@@ -178,4 +178,4 @@ pub counts-fit : CountsFit
 unfolding isToCome isMissing pixelsOf
 counts-fit O J r =
     let k = reached-mid O J r in
-    rw (k .1 .planned, k .1 .phase) (mid-fits O (k .0) J (k .1))
+    rw (k .1 .recorded .planned, k .1 .recorded .phase) (mid-fits O (k .0) J (k .1))

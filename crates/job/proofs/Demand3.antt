@@ -73,7 +73,7 @@ module _ (O : Opening) where
   abbrev pub sharedHere : Shared
   sharedHere = S (planOf O) (I .pinned) (inksOf I) (cppOf I (O .cpp))
 
-  pub phases-more : (n : ℕ) → phases O (suc n) ≡ walkPhase sharedHere (O .passes) (phases O n)
+  phases-more : (n : ℕ) → phases O (suc n) ≡ walkPhase sharedHere (O .passes) (phases O n)
   unfolding runOne walkAt upTo sharedOf
   phases-more n = refl
 
@@ -222,9 +222,9 @@ module _ (O : Opening) where
       every : EveryCall O J
       every = record {
         safe = subst (Safe O) (sym (ap (λ (x : Pixels). x .indices) image-is)) (safe-of (length (cpeOf I (O .cpp))) _ (some-sound back (phases O m .now) (walked m)));
-        counts = ap length (H .counts) ∙ sym (H .done);
-        settled = λ e l. subst LastZero (sym (H .counts)) (run-settled I (O .passes) (O .cpp) m (sym (H .ended) ∙ e) (omega (arith, l, H .done)));
-        initial = ap (λ (p : Plan). p .initial) (H .planned);
+        counts = ap length (H .recorded .counts) ∙ sym (H .recorded .done);
+        settled = λ e l. subst LastZero (sym (H .recorded .counts)) (run-settled I (O .passes) (O .cpp) m (sym (H .recorded .ended) ∙ e) (omega (arith, l, H .recorded .done)));
+        initial = ap (λ (p : Plan). p .initial) (H .recorded .planned);
       }
 
     -- ---- the whole list

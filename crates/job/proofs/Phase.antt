@@ -126,16 +126,20 @@ module _ (plan : Plan) (pinned : List ℕ) (inks cpp : List Float) where
   abbrev pub S : Shared
   S = shared T (plan .inks) pinned inks cpp
 
+  -- a record and counts that stand where run one stands
+  pub record Recorded (r : JobRecord) (stores : List ℕ) (w : Walk) : Type 0 where
+    pub planned : r .plan ≡ plan
+    pub error : r .error ≡ w .now .run .error
+    pub phase : r .phase ≡ w .phase
+    pub ended : r .finished ≡ w .ended
+    pub counts : stored r stores ≡ w .counts
+    pub done : r .done ≡ length (w .counts)
+    pub counts-length : length stores ≡ plan .allowed
+
   -- run two in the middle of a phase that run one starts at w
   pub record Inv (J : Job) (w : Walk) : Type 0 where
-    pub planned : J .rec .plan ≡ plan
-    pub error : J .rec .error ≡ w .now .run .error
-    pub phase : J .rec .phase ≡ w .phase
-    pub ended : J .rec .finished ≡ w .ended
-    pub counts : stored (J .rec) (J .counts) ≡ w .counts
-    pub done : J .rec .done ≡ length (w .counts)
+    pub recorded : Recorded (J .rec) (J .counts) w
     pub whole : WholeImage T (pixelsNow (w .now))
-    pub counts-length : length (J .counts) ≡ plan .allowed
     pub states-length : length (J .states) ≡ tiles T
     pub deltas-length : length (J .deltas) ≡ tiles T
     pub half : halfOf J ≡ merge S (pixelsNow (w .now)) (isHome T (w .phase) (J .states)) (tiles T) (halfNow (w .now))
@@ -149,14 +153,8 @@ module _ (plan : Plan) (pinned : List ℕ) (inks cpp : List Float) where
   pub fresh : (J : Job) (w : Walk) → Same J w → J .rec .plan ≡ plan → J .rec .phase ≡ w .phase → WholeImage T (pixelsNow (w .now)) → length (J .counts) ≡ plan .allowed →
       length (J .states) ≡ tiles T → length (J .deltas) ≡ tiles T → ((t : ℕ) → t < tiles T → getD (J .states) t 0 ≡ 0) → ((r : JobRecord) → List·Memᴰ r (J .seen) → r .plan ≡ plan) → List·Memᴰ (J .rec) (J .seen) → Inv J w
   fresh J w s planned phase whole counts states deltas zeros seen present = record {
-    planned = planned;
-    error = s .error;
-    phase = phase;
-    ended = s .ended;
-    counts = s .counts;
-    done = s .done;
+    recorded = record { planned = planned; error = s .error; phase = phase; ended = s .ended; counts = s .counts; done = s .done; counts-length = counts };
     whole = whole;
-    counts-length = counts;
     states-length = states;
     deltas-length = deltas;
     half = same-half ∙ sym (merge-keeps S (pixelsNow (w .now)) (halfNow (w .now)) (λ m. m ≡ halfNow (w .now)) (isHome T (w .phase) (J .states)) (tiles T) (λ u h d a e. absurd (none u h d)) refl);
@@ -177,14 +175,14 @@ module _ (plan : Plan) (pinned : List ℕ) (inks cpp : List Float) where
     abbrev start : Pixels
     start = pixelsNow (w .now)
 
-    pub tiling-is : J .rec .plan .tiling ≡ T
-    tiling-is = ap (λ (p : Plan). p .tiling) (I .planned)
+    tiling-is : J .rec .plan .tiling ≡ T
+    tiling-is = ap (λ (p : Plan). p .tiling) (I .recorded .planned)
 
-    pub tiles-are : tiles (J .rec .plan .tiling) ≡ tiles T
+    tiles-are : tiles (J .rec .plan .tiling) ≡ tiles T
     tiles-are = ap tiles tiling-is
 
-    pub due-is : (t : ℕ) → inPhase (J .rec .plan .tiling) (J .rec .phase) t ≡ inPhase T (w .phase) t
-    due-is t = ap₂ (λ (A : Tiling) p. inPhase A p t) tiling-is (I .phase)
+    due-is : (t : ℕ) → inPhase (J .rec .plan .tiling) (J .rec .phase) t ≡ inPhase T (w .phase) t
+    due-is t = ap₂ (λ (A : Tiling) p. inPhase A p t) tiling-is (I .recorded .phase)
 
     -- a tile that take or put back was given, and was not back
     record Given (t : ℕ) : Type 0 where
@@ -228,7 +226,7 @@ module _ (plan : Plan) (pinned : List ℕ) (inks cpp : List Float) where
     known r e q m = go (List·Memᴰ·cases-cons m)
       where
         go : (q ≡ r) ⊎ List·Memᴰ q (J .seen) → q .plan ≡ plan
-        go (inl z) = ap (λ (x : JobRecord). x .plan) z ∙ e ∙ I .planned
+        go (inl z) = ap (λ (x : JobRecord). x .plan) z ∙ e ∙ I .recorded .planned
         go (inr z) = I .seen q z
 
     -- ---- a refused call: the record is seen once more
@@ -236,14 +234,8 @@ module _ (plan : Plan) (pinned : List ℕ) (inks cpp : List Float) where
     pub refused-keeps : Inv (refused J (J .rec)) w
     unfolding refused
     refused-keeps = record {
-      planned = I .planned;
-      error = I .error;
-      phase = I .phase;
-      ended = I .ended;
-      counts = I .counts;
-      done = I .done;
+      recorded = I .recorded;
       whole = I .whole;
-      counts-length = I .counts-length;
       states-length = I .states-length;
       deltas-length = I .deltas-length;
       half = I .half;
@@ -260,14 +252,8 @@ module _ (plan : Plan) (pinned : List ℕ) (inks cpp : List Float) where
       pub take-keeps : Inv (tookTile J t) w
       unfolding tookTile
       take-keeps = record {
-        planned = I .planned;
-        error = I .error;
-        phase = I .phase;
-        ended = I .ended;
-        counts = I .counts;
-        done = I .done;
+        recorded = I .recorded;
         whole = I .whole;
-        counts-length = I .counts-length;
         states-length = length-set (J .states) t 1 ∙ I .states-length;
         deltas-length = I .deltas-length;
         half = I .half ∙ merge-cong S start (halfNow (w .now)) _ _ (tiles T) (λ u h. sym (homes u (ℕ-discrete u t)));
@@ -318,14 +304,10 @@ module _ (plan : Plan) (pinned : List ℕ) (inks cpp : List Float) where
         pub putBack-keeps : Inv (tileBack J t made) w
         unfolding tileBack withProgress stored
         putBack-keeps = record {
-          planned = I .planned;
-          error = I .error;
-          phase = I .phase;
-          ended = I .ended;
-          counts = I .counts;
-          done = I .done;
+          recorded =
+              let b = I .recorded in
+              record { planned = b .planned; error = b .error; phase = b .phase; ended = b .ended; counts = b .counts; done = b .done; counts-length = b .counts-length };
           whole = I .whole;
-          counts-length = I .counts-length;
           states-length = length-set (J .states) t 2 ∙ I .states-length;
           deltas-length = length-set (J .deltas) t (made .progress .delta) ∙ I .deltas-length;
           half = back-half ∙ ap (home S start t) (I .half) ∙
@@ -385,19 +367,19 @@ module _ (plan : Plan) (pinned : List ℕ) (inks cpp : List Float) where
           ap (λ (r : Refined). r .run .error) (walk-all S (w .phase) (w .now))
           ∙ walk-reached S (w .phase) (inPhase T (w .phase)) (λ u i. i) (w .now) (I .whole) (tiles T) .error
           ∙ joinDeltas-cong (inPhase T (w .phase)) _ (λ t. getD (J .deltas) t nan) (tiles T) (w .now .run .error) (λ t h i. sym (I .delta t h (sym (all-home t h) ∙ i)))
-          ∙ sym (rw (tiling-is, I .phase, I .error))
+          ∙ sym (rw (tiling-is, I .recorded .phase, I .recorded .error))
 
       going : w .ended ≡ false
-      going = sym (I .ended) ∙ v .unfinished
+      going = sym (I .recorded .ended) ∙ v .unfinished
 
       more : (k : ℕ) → J .rec .done + 1 ≡ length (w .counts ++ (k ∷ []))
-      more k = ap (λ n. n + 1) (I .done) ∙ sym (length-append (w .counts) (k ∷ []))
+      more k = ap (λ n. n + 1) (I .recorded .done) ∙ sym (length-append (w .counts) (k ∷ []))
 
       more-stored : take (J .rec .done + 1) (set (J .counts) (J .rec .done) (J .rec .accepted)) ≡ w .counts ++ (J .rec .accepted ∷ [])
       unfolding stored
       more-stored =
           let room : J .rec .done < length (J .counts) = omega (arith, v .counts-length, v .valid .left (v .unfinished)) in
-          rw add-one (take-suc-set (J .counts) (J .rec .done) (J .rec .accepted) room ∙ ap (λ (l : List ℕ). l ++ (J .rec .accepted ∷ [])) (I .counts))
+          rw add-one (take-suc-set (J .counts) (J .rec .done) (J .rec .accepted) room ∙ ap (λ (l : List ℕ). l ++ (J .rec .accepted ∷ [])) (I .recorded .counts))
 
       pub close-same : Same (phaseClosed J) (walkPhase S (plan .allowed) w)
       unfolding phaseClosed nextRecord walkPhase stored
@@ -413,11 +395,11 @@ module _ (plan : Plan) (pinned : List ℕ) (inks cpp : List Float) where
           accepted-same = sym (ap (λ (m : Half). m .accepted) end-half)
 
           allowed-is : J .rec .plan .allowed ≡ plan .allowed
-          allowed-is = ap (λ (p : Plan). p .allowed) (I .planned)
+          allowed-is = ap (λ (p : Plan). p .allowed) (I .recorded .planned)
 
           go : (b : Bool) → eqb (w .phase) 3 ≡ b → Same (phaseClosed J) (walkPhase S (plan .allowed) w)
           go true e =
-              let f : eqb (J .rec .phase) 3 ≡ true = rw (I .phase) e in
+              let f : eqb (J .rec .phase) 3 ≡ true = rw (I .recorded .phase) e in
               record {
                 indices = rw (going, e) indices-same;
                 cpe = rw (going, e) cpe-same;
@@ -428,12 +410,12 @@ module _ (plan : Plan) (pinned : List ℕ) (inks cpp : List Float) where
                 ended = rw (going, e, f, ← accepted-same, allowed-is, more (J .rec .accepted));
               }
           go false e =
-              let f : eqb (J .rec .phase) 3 ≡ false = rw (I .phase) e in
+              let f : eqb (J .rec .phase) 3 ≡ false = rw (I .recorded .phase) e in
               record {
                 indices = rw (going, e) indices-same;
                 cpe = rw (going, e) cpe-same;
-                counts = rw (going, e, f) (I .counts);
-                done = rw (going, e, f) (I .done);
+                counts = rw (going, e, f) (I .recorded .counts);
+                done = rw (going, e, f) (I .recorded .done);
                 accepted = rw (going, e, f) accepted-same;
                 error = rw (going, e, f) (sym end-error);
                 ended = rw (going, e, f);
@@ -448,8 +430,8 @@ module _ (plan : Plan) (pinned : List ℕ) (inks cpp : List Float) where
       next-phase = rw going (go (eqb (w .phase) 3) refl)
         where
           go : (b : Bool) → eqb (w .phase) 3 ≡ b → nextRecord (J .rec) (J .deltas) .phase ≡ phaseEnd (plan .allowed) w end .phase
-          go true e = let f : eqb (J .rec .phase) 3 ≡ true = rw (I .phase) e in rw (e, f)
-          go false e = let f : eqb (J .rec .phase) 3 ≡ false = rw (I .phase) e in rw (e, f) (ap (λ p. p + 1) (I .phase))
+          go true e = let f : eqb (J .rec .phase) 3 ≡ true = rw (I .recorded .phase) e in rw (e, f)
+          go false e = let f : eqb (J .rec .phase) 3 ≡ false = rw (I .recorded .phase) e in rw (e, f) (ap (λ p. p + 1) (I .recorded .phase))
 
       next-whole : WholeImage T (pixelsNow (walkPhase S (plan .allowed) w .now))
       unfolding phaseClosed
@@ -466,6 +448,6 @@ module _ (plan : Plan) (pinned : List ℕ) (inks cpp : List Float) where
       pub close-keeps : Inv (phaseClosed J) (walkPhase S (plan .allowed) w)
       unfolding phaseClosed released
       close-keeps =
-          fresh (phaseClosed J) (walkPhase S (plan .allowed) w) close-same (next-plan ∙ I .planned) next-phase next-whole
-          (either length (eqb (J .rec .phase) 3) (length-set (J .counts) (J .rec .done) (J .rec .accepted) ∙ I .counts-length) (I .counts-length))
+          fresh (phaseClosed J) (walkPhase S (plan .allowed) w) close-same (next-plan ∙ I .recorded .planned) next-phase next-whole
+          (either length (eqb (J .rec .phase) 3) (length-set (J .counts) (J .rec .done) (J .rec .accepted) ∙ I .recorded .counts-length) (I .recorded .counts-length))
           (length-table _ _ ∙ tiles-are) (I .deltas-length) next-waiting (known (nextRecord (J .rec) (J .deltas)) next-plan) (List·Memᴰ·head refl)

@@ -120,11 +120,11 @@ module _ (O : Opening) (ok : openOf O .status ≡ accepted) (m : ℕ) (J : Job) 
 
   going : Going (O .passes) m w
   unfolding runOne
-  going = ⊎-elim (λ g. g) (λ o. absurd (false≢true (sym running ∙ H .ended ∙ o .ended))) (walk-stage (sharedOf I (O .cpp)) (O .passes) (cpeOf I (O .cpp)) (I .indices) (errorOf I (O .cpp)) m)
+  going = ⊎-elim (λ g. g) (λ o. absurd (false≢true (sym running ∙ H .recorded .ended ∙ o .ended))) (walk-stage (sharedOf I (O .cpp)) (O .passes) (cpeOf I (O .cpp)) (I .indices) (errorOf I (O .cpp)) m)
 
   pixels-of : pixelsOf (J .rec) ≡ T .height * T .width
   unfolding pixelsOf
-  pixels-of = rw (H .planned)
+  pixels-of = rw (H .recorded .planned)
 
   valid-record : ValidRecord (J .rec)
   unfolding tilingOf
@@ -132,19 +132,19 @@ module _ (O : Opening) (ok : openOf O .status ≡ accepted) (m : ℕ) (J : Job) 
       let v = valid O ok .refine in
       let i = v .valid in
       let k = radii O ok in
-      let left : J .rec .done < O .passes = omega (arith, H .done, going .left) in
+      let left : J .rec .done < O .passes = omega (arith, H .recorded .done, going .left) in
       record {
-        width-least = rw (H .planned) (i .width-least);
-        width-most = rw (H .planned) (i .width-most);
-        height-most = rw (H .planned) (i .height-most);
-        inks-least = rw (H .planned) (i .inks-least);
-        inks-most = rw (H .planned) (i .inks-most);
-        lum = rw (H .planned) (k .0);
-        chroma = rw (H .planned) (k .1);
-        allowed-most = rw (H .planned) (v .passes-most);
-        done-most = rw (H .planned) (omega arith);
-        phase-most = omega (arith, H .phase, going .phase);
-        left = λ e. rw (H .planned) left;
+        width-least = rw (H .recorded .planned) (i .width-least);
+        width-most = rw (H .recorded .planned) (i .width-most);
+        height-most = rw (H .recorded .planned) (i .height-most);
+        inks-least = rw (H .recorded .planned) (i .inks-least);
+        inks-most = rw (H .recorded .planned) (i .inks-most);
+        lum = rw (H .recorded .planned) (k .0);
+        chroma = rw (H .recorded .planned) (k .1);
+        allowed-most = rw (H .recorded .planned) (v .passes-most);
+        done-most = rw (H .recorded .planned) (omega arith);
+        phase-most = omega (arith, H .recorded .phase, going .phase);
+        left = λ e. rw (H .recorded .planned) left;
         accepted-most = omega (arith, pixels-of, mid-fits O m J H);
       }
 
@@ -158,11 +158,11 @@ module _ (O : Opening) (ok : openOf O .status ≡ accepted) (m : ℕ) (J : Job) 
         record {
           valid = valid-record;
           unfinished = running;
-          tile-has = rw (H .planned) low;
-          due = rw (H .planned, H .phase) here;
+          tile-has = rw (H .recorded .planned) low;
+          due = rw (H .recorded .planned, H .recorded .phase) here;
           indices-length = whole .indices ∙ image-area T ∙ sym pixels-of;
           cpe-length = whole .cpe ∙ ap (λ n. 3 * n) (image-area T ∙ sym pixels-of);
-          states-length = H .states-length ∙ ap (λ (p : Plan). tiles (p .tiling)) (sym (H .planned));
+          states-length = H .states-length ∙ ap (λ (p : Plan). tiles (p .tiling)) (sym (H .recorded .planned));
         }
 
     in-states : t < length (J .states)
@@ -178,8 +178,8 @@ module _ (O : Opening) (ok : openOf O .status ≡ accepted) (m : ℕ) (J : Job) 
       take-valid = record {
         on = valid-tile;
         room = record {
-          cpe-length = rw (H .planned) (length-crop nan 3 (image T) (region T t) (J .image .cpe));
-          indices-length = rw (H .planned) (length-crop 0 1 (image T) (region T t) (J .image .indices) ∙ one-mul (area (region T t)));
+          cpe-length = rw (H .recorded .planned) (length-crop nan 3 (image T) (region T t) (J .image .cpe));
+          indices-length = rw (H .recorded .planned) (length-crop 0 1 (image T) (region T t) (J .image .indices) ∙ one-mul (area (region T t)));
         };
         waiting = waiting;
       }
@@ -212,12 +212,12 @@ module _ (O : Opening) (ok : openOf O .status ≡ accepted) (m : ℕ) (J : Job) 
       work-valid : ValidWork (J .rec) t (I .pinned) (cppOf I (O .cpp)) (J .last t) (inksOf I)
       work-valid = record {
         valid = valid-record;
-        tile-has = rw (H .planned) low;
+        tile-has = rw (H .recorded .planned) low;
         mask-length = λ h. ready O ok .mask h ∙ sym pixels-of;
         cpp-length = ready O ok .cpp-room;
-        room = record { cpe-length = rw (H .planned) (last-fits .cpe); indices-length = rw (H .planned) (last-fits .indices) };
-        inks-length = rw (H .planned) (ready O ok .inks-room);
-        named = rw (H .planned) (last-fits .named);
+        room = record { cpe-length = rw (H .recorded .planned) (last-fits .cpe); indices-length = rw (H .recorded .planned) (last-fits .indices) };
+        inks-length = rw (H .recorded .planned) (ready O ok .inks-room);
+        named = rw (H .recorded .planned) (last-fits .named);
       }
 
       worked : WorkMade O J t made
@@ -225,7 +225,7 @@ module _ (O : Opening) (ok : openOf O .status ≡ accepted) (m : ℕ) (J : Job) 
         given = J .rec;
         known = H .present;
         ok = rw (leaves O ok) work-ok;
-        same = rw (leaves O ok) (work-made (planOf O) (I .pinned) (inksOf I) (cppOf I (O .cpp)) J w H t (J .rec) (H .planned) work-ok);
+        same = rw (leaves O ok) (work-made (planOf O) (I .pinned) (inksOf I) (cppOf I (O .cpp)) J w H t (J .rec) (H .recorded .planned) work-ok);
       }
         where
           work-ok : workOf (J .rec) t (I .pinned) (cppOf I (O .cpp)) (J .last t) (inksOf I) .status ≡ accepted
@@ -252,12 +252,12 @@ module _ (O : Opening) (ok : openOf O .status ≡ accepted) (m : ℕ) (J : Job) 
       put-valid : ValidPutBack (J .rec) t (J .image) (J .states) (J .deltas) made
       put-valid = record {
         on = valid-tile;
-        count-most = rw (H .planned) few;
+        count-most = rw (H .recorded .planned) few;
         total-most = rw pixels-of fits-now;
-        deltas-length = H .deltas-length ∙ ap (λ (p : Plan). tiles (p .tiling)) (sym (H .planned));
-        room = record { cpe-length = rw (H .planned) (result-fits .cpe); indices-length = rw (H .planned) (result-fits .indices) };
+        deltas-length = H .deltas-length ∙ ap (λ (p : Plan). tiles (p .tiling)) (sym (H .recorded .planned));
+        room = record { cpe-length = rw (H .recorded .planned) (result-fits .cpe); indices-length = rw (H .recorded .planned) (result-fits .indices) };
         out = out;
-        named = rw (H .planned) (result-fits .named);
+        named = rw (H .recorded .planned) (result-fits .named);
       }
 
       put-ok : answer (J .rec) putting ≡ accepted
@@ -286,10 +286,10 @@ module _ (O : Opening) (ok : openOf O .status ≡ accepted) (m : ℕ) (J : Job) 
       close-valid = record {
         valid = valid-record;
         unfinished = running;
-        counts-length = H .counts-length ∙ ap (λ (p : Plan). p .allowed) (sym (H .planned));
-        states-length = H .states-length ∙ ap (λ (p : Plan). tiles (p .tiling)) (sym (H .planned));
-        deltas-length = H .deltas-length ∙ ap (λ (p : Plan). tiles (p .tiling)) (sym (H .planned));
-        back = λ t l i. back t (rw (H .planned) at l) (rw (H .planned, H .phase) at i);
+        counts-length = H .recorded .counts-length ∙ ap (λ (p : Plan). p .allowed) (sym (H .recorded .planned));
+        states-length = H .states-length ∙ ap (λ (p : Plan). tiles (p .tiling)) (sym (H .recorded .planned));
+        deltas-length = H .deltas-length ∙ ap (λ (p : Plan). tiles (p .tiling)) (sym (H .recorded .planned));
+        back = λ t l i. back t (rw (H .recorded .planned) at l) (rw (H .recorded .planned, H .recorded .phase) at i);
       }
 
       close-ok : closeOf (J .rec) (J .counts) (J .states) (J .deltas) .status ≡ accepted
@@ -297,7 +297,7 @@ module _ (O : Opening) (ok : openOf O .status ≡ accepted) (m : ℕ) (J : Job) 
 
   missing-is : missing J ≡ missingAt T (w .phase) (J .states)
   unfolding missing isMissing
-  missing-is = rw (H .planned, H .phase)
+  missing-is = rw (H .recorded .planned, H .recorded .phase)
 
 -- ---- all tiles, one after the other
 

@@ -1,5 +1,5 @@
 -- A call's tests pass exactly where what it is given is valid: each passes exactly where its limit holds. Assumes nothing.
-use Prim.Native.Nat.{ℕ, zero, suc, _+_, _%_, _≤_, _<_}
+use Prim.Native.Nat.{ℕ, zero, suc, _+_, _*_, _%_, _≤_, _<_}
 use native.Mathlib.Omega.{arith}
 use native.Mathlib.Decide.{ℕ-discrete}
 use mathlib.Core.Path.{_≡_, refl, ap}
@@ -8,14 +8,14 @@ use mathlib.Core.Bool.{Bool, true, false, not, cond, _&&_}
 use mathlib.Core.List.{List}
 use borrow.Author.Tests.{ltb-true, ltb-false, lt-ltb, le-ltb, leb-true, leb-false, le-leb, lt-leb, eqb-true, eqb-false, eq-eqb, ne-eqb, not-false}
 use lib.Dec.{leb, ltb, eqb}
-use lib.ListN.{getD}
+use lib.ListN.{length, getD}
 use lib.Ieee.{Float}
 use Rattle.base.specs.Grid.{area}
 use Rattle.base.specs.Loop.{upTo}
 use Rattle.base.specs.Refusal.{accepted, Passes}
 use Rattle.base.proofs.LoopLaws.{upTo-ind}
 use Rattle.eye.specs.Eye.{KernelRadius}
-use Rattle.tiling.specs.Tiling.{tiles, inPhase, tile}
+use Rattle.tiling.specs.Tiling.{tiles, inPhase, tile, region}
 use Rattle.input.specs.Input.{within, maskFits}
 use Rattle.input.proofs.JudgeLaws.{passes-append}
 use Rattle.input.proofs.FirstUnnamed.{named-of, of-named}
@@ -27,7 +27,7 @@ use Rattle.job.specs.Take.{takeTests}
 use Rattle.job.specs.Work.{copyTest, workTests}
 use Rattle.job.specs.PutBack.{countTest, putBackTests}
 use Rattle.job.specs.Close.{firstOf, isMissing, closeTests}
-use Rattle.job.specs.Valid.{ValidRecord, ValidTake, ValidWork, ValidPutBack, ValidClose}
+use Rattle.job.specs.Valid.{ValidRecord, ValidTile, ValidTake, ValidWork, ValidPutBack, ValidClose}
 use Rattle.job.proofs.Bools.{both, and-true, or-false, implied}
 
 -- ---- tests as facts
@@ -92,34 +92,16 @@ record-of r p =
 of-record : (r : JobRecord) → ValidRecord r → Passes (recordTests r)
 unfolding recordTests Passes
 of-record r v =
-    let size = and-true (of-within 1 (r .plan .tiling .width) 4096 (v .width-least) (v .width-most)) (le-leb _ _ (v .height-most)) in (
-      ap not size,
-      (
-        ap not (of-within 1 (r .plan .inks) 256 (v .inks-least) (v .inks-most)),
-        (
-          ap not (of-radius _ (v .lum)),
-          (
-            ap not (of-radius _ (v .chroma)),
-            (
-              le-ltb _ _ (v .allowed-most),
-              (
-                le-ltb _ _ (v .done-most),
-                (
-                  le-ltb _ _ (v .phase-most),
-                  (
-                    go (r .finished) (v .left),
-                    (
-                      le-ltb _ _ (v .accepted-most),
-                      tt,
-                    ),
-                  ),
-                ),
-              ),
-            ),
-          ),
-        ),
-      ),
-    )
+    let size = ap not (and-true (of-within 1 (r .plan .tiling .width) 4096 (v .width-least) (v .width-most)) (le-leb _ _ (v .height-most))) in
+    let inks = ap not (of-within 1 (r .plan .inks) 256 (v .inks-least) (v .inks-most)) in
+    let lum = ap not (of-radius (r .plan .tiling .lum) (v .lum)) in
+    let chroma = ap not (of-radius (r .plan .tiling .chroma) (v .chroma)) in
+    let allowed = le-ltb _ _ (v .allowed-most) in
+    let done = le-ltb _ _ (v .done-most) in
+    let phase = le-ltb _ _ (v .phase-most) in
+    let left = go (r .finished) (v .left) in
+    let total = le-ltb _ _ (v .accepted-most) in
+    (size, (inks, (lum, (chroma, (allowed, (done, (phase, (left, (total, tt)))))))))
   where
     go : (b : Bool) → (b ≡ false → r .done < r .plan .allowed) → (not b && leb (r .plan .allowed) (r .done)) ≡ false
     go true f = refl
@@ -177,6 +159,13 @@ none-missing r states t f = go (inPhase (r .plan .tiling) (r .phase) t) f
 -- ---- each call's tests
 
 module _ (r : JobRecord) (t : ℕ) (image : Pixels) (states : List ℕ) where
+  -- the tests that take and put back have in common
+  tile-of : ValidRecord r → r .finished ≡ false → not (isDue r t) ≡ false → not (eqb (length (image .indices)) (pixelsOf r)) ≡ false → not (eqb (length (image .cpe)) (3 * pixelsOf r)) ≡ false →
+      not (eqb (length states) (tiles (r .plan .tiling))) ≡ false → ValidTile r t image states
+  tile-of v f due indices cpe bytes =
+      let d = due-of r t due in
+      record { valid = v; unfinished = f; tile-has = d .0; due = d .1; indices-length = equal-of _ _ indices; cpe-length = equal-of _ _ cpe; states-length = equal-of _ _ bytes }
+
   module _ (copy : Pixels) where
     pub take-passes : Passes (takeTests r t image states copy) ↔ ValidTake r t image states copy
     unfolding takeTests Passes isWaiting
@@ -184,50 +173,20 @@ module _ (r : JobRecord) (t : ℕ) (image : Pixels) (states : List ℕ) where
       λ p.
           let q = passes-append (recordTests r) _ .0 p in
           let c = q .1 in
-          let d = due-of r t (c .1 .0) in
           record {
-            on = record {
-              valid = record-of r (q .0);
-              unfinished = c .0;
-              tile-has = d .0;
-              due = d .1;
-              indices-length = equal-of _ _ (c .1 .1 .0);
-              cpe-length = equal-of _ _ (c .1 .1 .1 .0);
-              states-length = equal-of _ _ (c .1 .1 .1 .1 .0);
-            };
+            on = tile-of (record-of r (q .0)) (c .0) (c .1 .0) (c .1 .1 .0) (c .1 .1 .1 .0) (c .1 .1 .1 .1 .0);
             room = record { cpe-length = equal-of _ _ (c .1 .1 .1 .1 .1 .0); indices-length = equal-of _ _ (c .1 .1 .1 .1 .1 .1 .0) };
             waiting = equal-of _ _ (c .1 .1 .1 .1 .1 .1 .1 .0);
           },
       λ v.
-          let on = v .on in
-          passes-append (recordTests r) _ .1 (
-            of-record r (on .valid),
-            (
-              on .unfinished,
-              (
-                of-due r t (on .tile-has) (on .due),
-                (
-                  of-equal _ _ (on .indices-length),
-                  (
-                    of-equal _ _ (on .cpe-length),
-                    (
-                      of-equal _ _ (on .states-length),
-                      (
-                        of-equal _ _ (v .room .cpe-length),
-                        (
-                          of-equal _ _ (v .room .indices-length),
-                          (
-                            of-equal _ _ (v .waiting),
-                            tt,
-                          ),
-                        ),
-                      ),
-                    ),
-                  ),
-                ),
-              ),
-            ),
-          ),
+          let tile = of-due r t (v .on .tile-has) (v .on .due) in
+          let indices = of-equal (length (image .indices)) (pixelsOf r) (v .on .indices-length) in
+          let cpe = of-equal (length (image .cpe)) (3 * pixelsOf r) (v .on .cpe-length) in
+          let bytes = of-equal (length states) (tiles (r .plan .tiling)) (v .on .states-length) in
+          let copy-cpe = of-equal (length (copy .cpe)) (3 * area (region (r .plan .tiling) t)) (v .room .cpe-length) in
+          let copy-indices = of-equal (length (copy .indices)) (area (region (r .plan .tiling) t)) (v .room .indices-length) in
+          let waits = of-equal (getD states t 0) 0 (v .waiting) in
+          passes-append (recordTests r) _ .1 (of-record r (v .on .valid), (v .on .unfinished, (tile, (indices, (cpe, (bytes, (copy-cpe, (copy-indices, (waits, tt))))))))),
     )
 
   module _ (deltas : List Float) (made : State) where
@@ -252,18 +211,9 @@ module _ (r : JobRecord) (t : ℕ) (image : Pixels) (states : List ℕ) where
       λ p.
           let q = passes-append (recordTests r) _ .0 p in
           let c = q .1 .1 in
-          let d = due-of r t (c .1 .0) in
-          let n = count-of (q .1 .0) (d .0) in
+          let n = count-of (q .1 .0) (due-of r t (c .1 .0) .0) in
           record {
-            on = record {
-              valid = record-of r (q .0);
-              unfinished = c .0;
-              tile-has = d .0;
-              due = d .1;
-              indices-length = equal-of _ _ (c .1 .1 .0);
-              cpe-length = equal-of _ _ (c .1 .1 .1 .0);
-              states-length = equal-of _ _ (c .1 .1 .1 .1 .0);
-            };
+            on = tile-of (record-of r (q .0)) (c .0) (c .1 .0) (c .1 .1 .0) (c .1 .1 .1 .0) (c .1 .1 .1 .1 .0);
             count-most = n .0;
             total-most = n .1;
             deltas-length = equal-of _ _ (c .1 .1 .1 .1 .1 .0);
@@ -272,44 +222,17 @@ module _ (r : JobRecord) (t : ℕ) (image : Pixels) (states : List ℕ) where
             named = named-of _ _ (c .1 .1 .1 .1 .1 .1 .1 .1 .1 .0);
           },
       λ v.
-          let on = v .on in
-          passes-append (recordTests r) _ .1 (
-            of-record r (on .valid),
-            (
-              of-count (v .count-most) (v .total-most),
-              (
-                on .unfinished,
-                (
-                  of-due r t (on .tile-has) (on .due),
-                  (
-                    of-equal _ _ (on .indices-length),
-                    (
-                      of-equal _ _ (on .cpe-length),
-                      (
-                        of-equal _ _ (on .states-length),
-                        (
-                          of-equal _ _ (v .deltas-length),
-                          (
-                            of-equal _ _ (v .room .cpe-length),
-                            (
-                              of-equal _ _ (v .room .indices-length),
-                              (
-                                of-equal _ _ (v .out),
-                                (
-                                  of-named _ _ (v .named),
-                                  tt,
-                                ),
-                              ),
-                            ),
-                          ),
-                        ),
-                      ),
-                    ),
-                  ),
-                ),
-              ),
-            ),
-          ),
+          let count = of-count (v .count-most) (v .total-most) in
+          let tile = of-due r t (v .on .tile-has) (v .on .due) in
+          let indices = of-equal (length (image .indices)) (pixelsOf r) (v .on .indices-length) in
+          let cpe = of-equal (length (image .cpe)) (3 * pixelsOf r) (v .on .cpe-length) in
+          let bytes = of-equal (length states) (tiles (r .plan .tiling)) (v .on .states-length) in
+          let floats = of-equal (length deltas) (tiles (r .plan .tiling)) (v .deltas-length) in
+          let copy-cpe = of-equal (length (made .cpe)) (3 * area (region (r .plan .tiling) t)) (v .room .cpe-length) in
+          let copy-indices = of-equal (length (made .indices)) (area (region (r .plan .tiling) t)) (v .room .indices-length) in
+          let out = of-equal (getD states t 0) 1 (v .out) in
+          let named = of-named (r .plan .inks) (made .indices) (v .named) in
+          passes-append (recordTests r) _ .1 (of-record r (v .on .valid), (count, (v .on .unfinished, (tile, (indices, (cpe, (bytes, (floats, (copy-cpe, (copy-indices, (out, (named, tt)))))))))))),
     )
 
 module _ (r : JobRecord) (t : ℕ) (pinned : List ℕ) (cpp : List Float) (copy : Pixels) (inks : List Float) where
@@ -329,31 +252,14 @@ module _ (r : JobRecord) (t : ℕ) (pinned : List ℕ) (cpp : List Float) (copy 
           named = named-of _ _ (c .1 .1 .1 .1 .1 .1 .0);
         },
     λ v.
-        passes-append (recordTests r) _ .1 (
-          of-record r (v .valid),
-          (
-            ap not (lt-ltb _ _ (v .tile-has)),
-            (
-              ap not (of-mask _ _ (v .mask-length)),
-              (
-                of-equal _ _ (v .cpp-length),
-                (
-                  of-equal _ _ (v .room .cpe-length),
-                  (
-                    of-equal _ _ (v .room .indices-length),
-                    (
-                      of-equal _ _ (v .inks-length),
-                      (
-                        of-named _ _ (v .named),
-                        tt,
-                      ),
-                    ),
-                  ),
-                ),
-              ),
-            ),
-          ),
-        ),
+        let tile = ap not (lt-ltb _ _ (v .tile-has)) in
+        let mask = ap not (of-mask (length pinned) (pixelsOf r) (v .mask-length)) in
+        let kernels = of-equal (length cpp) 8450 (v .cpp-length) in
+        let copy-cpe = of-equal (length (copy .cpe)) (3 * area (region (r .plan .tiling) t)) (v .room .cpe-length) in
+        let copy-indices = of-equal (length (copy .indices)) (area (region (r .plan .tiling) t)) (v .room .indices-length) in
+        let values = of-equal (length inks) (3 * r .plan .inks) (v .inks-length) in
+        let named = of-named (r .plan .inks) (copy .indices) (v .named) in
+        passes-append (recordTests r) _ .1 (of-record r (v .valid), (tile, (mask, (kernels, (copy-cpe, (copy-indices, (values, (named, tt)))))))),
   )
 
 module _ (r : JobRecord) (counts states : List ℕ) (deltas : List Float) where
@@ -375,23 +281,9 @@ module _ (r : JobRecord) (counts states : List ℕ) (deltas : List Float) where
     λ v.
         let n = tiles (r .plan .tiling) in
         let all : firstOf (isMissing r states) n ≡ n = none-first (isMissing r states) n (λ t h. none-missing r states t (v .back t h)) in
-        passes-append (recordTests r) _ .1 (
-          of-record r (v .valid),
-          (
-            v .unfinished,
-            (
-              of-equal _ _ (v .counts-length),
-              (
-                of-equal _ _ (v .states-length),
-                (
-                  of-equal _ _ (v .deltas-length),
-                  (
-                    le-ltb (firstOf (isMissing r states) n) n (omega (arith, all)),
-                    tt,
-                  ),
-                ),
-              ),
-            ),
-          ),
-        ),
+        let stored = of-equal (length counts) (r .plan .allowed) (v .counts-length) in
+        let bytes = of-equal (length states) n (v .states-length) in
+        let floats = of-equal (length deltas) n (v .deltas-length) in
+        let back = le-ltb (firstOf (isMissing r states) n) n (omega (arith, all)) in
+        passes-append (recordTests r) _ .1 (of-record r (v .valid), (v .unfinished, (stored, (bytes, (floats, (back, tt)))))),
   )

@@ -1,4 +1,5 @@
--- The job record (document 01, 'Records'), and what row 12 of the table of refusals asks of it. Errors are any floats.
+-- The job record (document 01, 'Records'), and what row 12 of the table of refusals asks of it. `Plan` is its part that an open fixes.
+-- Errors, deltas and field values may be any floats. A NaN is one float here, and which bits it has no definition decides.
 use Prim.Native.Nat.{ℕ, _*_, _%_}
 use mathlib.Core.Bool.{Bool, not, _&&_}
 use mathlib.Core.List.{List, [], _∷_}

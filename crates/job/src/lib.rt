@@ -1,12 +1,12 @@
-// The job record: what open hands out, and every call on a job takes and returns by value. The definitions of the calls are in specs/, with the claim
-// that tiles shared among workers give the image of the plain walk (specs/Claim.antt); proofs/ has its proof.
+// The job record: what open hands out, and what every call on a job takes and returns by value.
+// The definitions of the calls are in specs/, with the claim that tiles shared among workers give
+// the image of the plain walk (specs/Claim.antt); proofs/ has its proof.
 use tiling::Tiling;
 
 // What an open fixes and no call changes.
 pub struct Plan {
     // The image's size and the radii of both kernels.
     pub tiling: Tiling,
-    // How many inks.
     pub inks: u64,
     // Passes allowed.
     pub allowed: u64,
@@ -14,7 +14,7 @@ pub struct Plan {
     pub initial: f64,
 }
 
-// Document 01's job record, by value; at the C boundary it is a run of 12 numbers (specs/Words.antt).
+// Document 01's job record. At the C boundary it is a run of 12 numbers (specs/Words.antt).
 pub struct JobRecord {
     pub plan: Plan,
     // Passes done.

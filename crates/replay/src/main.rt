@@ -2,7 +2,6 @@
 // that file's form, to be held to the copy of the Rust. What it reads and must write is made by
 //   grep '^call ' compare/replay.txt > crates/replay/stdin
 //   grep -E '^(refine|measure) ' compare/replay.txt > crates/replay/stdout
-use eye::DbsParams;
 use perceived::Measured;
 use refine::DbsStats;
 ghost use Prim.Native.Nat.{_<_, _≤_};
@@ -38,55 +37,6 @@ const CPP: usize = 11;
 const COUNTS: usize = 12;
 
 const INKS: usize = 13;
-
-// The f64 of these bits, a NaN for those of a NaN.
-fn value(bits: u64) -> f64 {
-    if bits % 0x8000_0000_0000_0000 > 0x7ff0_0000_0000_0000 {
-        return 0.0 / 0.0;
-    }
-    f64::from_bits(bits)
-}
-
-// The bits of x, 0 for a NaN.
-fn bits(x: f64) -> u64 {
-    if x == x {
-        return f64::to_bits(x);
-    }
-    0
-}
-
-// One step of the checksum.
-fn mix(h: u64, half: u64) -> u64
-    requires { ⌜ (h < 4294967291) × (half < 4294967296) ⌝ }
-    ensures { λ r. ⌜ r < 4294967291 ⌝ }
-{
-    (31 * h + half) % 4294967291
-}
-
-// The checksum of a buffer: of each value first the high and then the low 32 bits.
-fn checksum(x: &[f64]) -> u64 {
-    let mut sum = 0;
-    for i in 0..x.len() {
-        let b = bits(x[i]);
-        sum = mix(mix(sum, b / 4294967296), b % 4294967296);
-    }
-    sum
-}
-
-fn mix_count(h: u64, count: u32) -> u64
-    requires { ⌜ h < 4294967291 ⌝ }
-    ensures { λ r. ⌜ r < 4294967291 ⌝ }
-{
-    mix(h, count as u64 % 4294967296)
-}
-
-fn checksum_counts(counts: &[u32]) -> u64 {
-    let mut sum = 0;
-    for i in 0..counts.len() {
-        sum = mix_count(sum, counts[i]);
-    }
-    sum
-}
 
 // A byte of the text, a space past its end.
 fn byte_at(text: &[u8], i: usize) -> u8 {
@@ -175,7 +125,7 @@ fn number(line: &[u8], k: usize) -> u64 {
 }
 
 fn float(line: &[u8], k: usize) -> f64 {
-    value(number_from(line, word(line, k), 16))
+    checksum::value(number_from(line, word(line, k), 16))
 }
 
 // Puts the bytes that begin here into out, as far as it holds them, and says how many.
@@ -263,7 +213,7 @@ fn print_number(n: u64) {
 
 fn print_float(x: f64) {
     space();
-    io::print_hex(STDOUT, bits(x), 16);
+    io::print_hex(STDOUT, checksum::bits(x), 16);
 }
 
 fn print_sum(sum: u64) {
@@ -292,10 +242,10 @@ fn print_buffers(
     print_bytes(indices);
     space();
     print_counts(counts, passes);
-    print_sum(checksum(cpe));
-    print_sum(checksum(cpp));
-    print_sum(checksum_counts(counts));
-    print_sum(checksum(inks));
+    print_sum(checksum::floats(0, cpe));
+    print_sum(checksum::floats(0, cpp));
+    print_sum(checksum::counts(counts));
+    print_sum(checksum::floats(0, inks));
     io::write_all(STDOUT, b"\n");
 }
 
@@ -308,17 +258,14 @@ fn print_measured(m: Measured) {
 }
 
 fn measure(line: &[u8], pixels: &[u8], palette: &[u8], indices: &[u8]) -> Measured {
-    let params = DbsParams {
-        viewing_distance_cm: float(line, DISTANCE),
-        ppi: float(line, PPI),
-    };
-    perceived::measure(
+    dbs::perceived_error(
         pixels,
         number(line, WIDTH),
         number(line, HEIGHT),
         palette,
         indices,
-        params,
+        float(line, PPI),
+        float(line, DISTANCE),
     )
 }
 

@@ -36,26 +36,26 @@ mul-chroma-end c = omega (arith, fits (c .before .before .before .before .before
 add-chroma-end : tie.Need-add-chroma-end
 add-chroma-end c = omega (arith, fits (c .before .before .before .before .before))
 
-slice-reshare-prefix-checksum : tie.Need-slice-reshare-prefix-checksum
-slice-reshare-prefix-checksum c = omega (arith, fits (c .before .before .before .before .before), c .before .before .eye-kernels .kept, c .before .before .before .before .before .pre .3)
+slice-reshare-prefix-floats : tie.Need-slice-reshare-prefix-floats
+slice-reshare-prefix-floats c = omega (arith, fits (c .before .before .before .before .before), c .before .before .eye-kernels .kept, c .before .before .before .before .before .pre .3)
 
-slice-aggregate-checksum : tie.Need-slice-aggregate-checksum
-slice-aggregate-checksum c = sym (length-take-le _ _ (omega (arith, fits (c .before .before .before .before .before .before), c .before .before .before .eye-kernels .kept, c .before .before .before .before .before .before .pre .3)))
+slice-aggregate-floats : tie.Need-slice-aggregate-floats
+slice-aggregate-floats c = sym (length-take-le _ _ (omega (arith, fits (c .before .before .before .before .before .before), c .before .before .before .eye-kernels .kept, c .before .before .before .before .before .before .pre .3)))
 
-checksum-requires : tie.Need-checksum-requires
-checksum-requires c κs = search needs
+floats-requires : tie.Need-floats-requires
+floats-requires c κs = search needs
 
-sub-checksum : tie.Need-sub-checksum
-sub-checksum c = search needs
+sub-floats : tie.Need-sub-floats
+sub-floats c = search needs
 
-part-checksum-start : tie.Need-part-checksum-start
-part-checksum-start c = search needs
+part-floats-start : tie.Need-part-floats-start
+part-floats-start c = search needs
 
-part-checksum-end : tie.Need-part-checksum-end
-part-checksum-end c = omega (arith, fits (c .before .before .before .before .before .before .before .before), c .before .before .before .before .before .eye-kernels .kept, c .before .before .before .before .before .before .before .before .pre .3)
+part-floats-end : tie.Need-part-floats-end
+part-floats-end c = omega (arith, fits (c .before .before .before .before .before .before .before .before), c .before .before .before .before .before .eye-kernels .kept, c .before .before .before .before .before .before .before .before .pre .3)
 
-checksum-requires-2 : tie.Need-checksum-requires-2
-checksum-requires-2 c κs = search needs
+floats-requires-2 : tie.Need-floats-requires-2
+floats-requires-2 c κs = search needs
 
 same-length : tie.Need-same-length
 same-length c = search needs
@@ -75,12 +75,12 @@ kernels-spec =
     add-chroma-size
     mul-chroma-end
     add-chroma-end
-    slice-reshare-prefix-checksum
-    slice-aggregate-checksum
-    checksum-requires
-    sub-checksum
-    part-checksum-start
-    part-checksum-end
-    checksum-requires-2
+    slice-reshare-prefix-floats
+    slice-aggregate-floats
+    floats-requires
+    sub-floats
+    part-floats-start
+    part-floats-end
+    floats-requires-2
     same-length
     returns)

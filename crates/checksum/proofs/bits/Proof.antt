@@ -4,8 +4,8 @@ use mathlib.Core.Bool.{true, false, not, true≢false}
 use lib.Dec.{T}
 use lib.Ieee.{Float, nan, inf, fin, eq, isNan}
 use borrow.Author.Needs.{needs}
-use Rattle.replay.proofs.bits.Statement.{statement}
-use Rattle.replay.proofs.bits.Tie as tie
+use Rattle.checksum.proofs.bits.Statement.{statement}
+use Rattle.checksum.proofs.bits.Tie as tie
 
 no-nan : (x : Float) → eq x x ≡ true → T (not (isNan x))
 unfolding eq isNan

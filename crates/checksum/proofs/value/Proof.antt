@@ -2,8 +2,8 @@
 use lib.Ieee.Bits.{nanBits-above}
 use borrow.Author.Needs.{needs}
 use borrow.Author.Tests.{le-ltb}
-use Rattle.eyes.proofs.value.Statement.{statement}
-use Rattle.eyes.proofs.value.Tie as tie
+use Rattle.checksum.proofs.value.Statement.{statement}
+use Rattle.checksum.proofs.value.Tie as tie
 
 returns : tie.Need-returns
 returns c = search needs

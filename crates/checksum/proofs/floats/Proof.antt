@@ -1,16 +1,16 @@
--- `checksum` is safe: the sum stays below its modulus. Assumes nothing.
+-- `floats` is safe: the sum stays below its modulus. Assumes nothing.
 use Prim.Native.Nat.{_-_, _≤_, _<_}
 use mathlib.Core.Path.{_≡_}
 use borrow.Author.Needs.{needs}
 use lib.ListN.{length}
-use Rattle.eyes.proofs.checksum.Statement.{statement}
-use Rattle.eyes.proofs.checksum.Tie as tie
+use Rattle.checksum.proofs.floats.Statement.{statement}
+use Rattle.checksum.proofs.floats.Tie as tie
 
 abbrev Inv-loop : tie.InvT-loop
-Inv-loop h kernel sum₀ i₀ i-end sum i = (i ≤ length kernel) × (i-end ≡ length kernel) × (sum < 4294967291)
+Inv-loop h values sum₀ i₀ i-end sum i = (i ≤ length values) × (i-end ≡ length values) × (sum < 4294967291)
 
 abbrev μ-loop : tie.MeasureT-loop
-μ-loop h kernel sum₀ i₀ i-end sum i = length kernel - i
+μ-loop h values sum₀ i₀ i-end sum i = length values - i
 
 loop-holds : tie.Need-loop-holds Inv-loop μ-loop
 loop-holds c = search needs
@@ -42,5 +42,5 @@ loop-again c = search needs
 returns : tie.Need-returns Inv-loop μ-loop
 returns c = search needs
 
-pub checksum-spec : {M : Type 1} → statement M
-checksum-spec = tie.close (tie.spec Inv-loop μ-loop loop-holds mul-bits shared-slice-read-bits bits-requires mix-requires mix-requires-2 add-i loop-less loop-again returns)
+pub floats-spec : {M : Type 1} → statement M
+floats-spec = tie.close (tie.spec Inv-loop μ-loop loop-holds mul-bits shared-slice-read-bits bits-requires mix-requires mix-requires-2 add-i loop-less loop-again returns)

@@ -1,16 +1,16 @@
--- `checksum_counts` is safe: the sum stays below its modulus. Assumes nothing.
+-- `counts` is safe: the sum stays below its modulus. Assumes nothing.
 use mathlib.Core.Path.{_≡_}
 use Prim.Native.Nat.{_-_, _<_}
 use lib.ListN.{length}
 use borrow.Author.Needs.{needs}
-use Rattle.replay.proofs.checksum_counts.Statement.{statement}
-use Rattle.replay.proofs.checksum_counts.Tie as tie
+use Rattle.checksum.proofs.counts.Statement.{statement}
+use Rattle.checksum.proofs.counts.Tie as tie
 
 abbrev Inv-loop : tie.InvT-loop
-Inv-loop counts sum₀ i₀ i-end sum i = (i-end ≡ length counts) × (sum < 4294967291)
+Inv-loop values sum₀ i₀ i-end sum i = (i-end ≡ length values) × (sum < 4294967291)
 
 abbrev μ-loop : tie.MeasureT-loop
-μ-loop counts sum₀ i₀ i-end sum i = i-end - i
+μ-loop values sum₀ i₀ i-end sum i = i-end - i
 
 loop-holds : tie.Need-loop-holds Inv-loop μ-loop
 loop-holds c = search needs
@@ -36,8 +36,8 @@ loop-again c = search needs
 returns : tie.Need-returns Inv-loop μ-loop
 returns c = search needs
 
-pub checksum-counts-spec : {M : Type 1} → statement M
-checksum-counts-spec =
+pub counts-spec : {M : Type 1} → statement M
+counts-spec =
     tie.close
     (tie.spec
     Inv-loop
