@@ -1,0 +1,155 @@
+-- `copy_cpe` meets its contract: after each turn the rows above y are copied. Assumes nothing.
+use mathlib.Core.Path.{_≡_, refl, sym, ap, _∙_}
+use Prim.Native.Nat.{_+_, _*_, _-_, _≤_}
+use native.Mathlib.Omega.{arith}
+use borrow.Author.Needs.{needs}
+use lib.ListN.{length}
+use lib.Ieee.{nan}
+use Rattle.base.specs.Grid.{width}
+use Rattle.base.proofs.GridLaws.{length-paste}
+use Rattle.copy.proofs.RowLaws.{copied, row-room, turn, rows-none, rows-all, held-area}
+use Rattle.copy.proofs.copy_cpe.Statement.{statement}
+use Rattle.copy.proofs.copy_cpe.Tie as tie
+
+abbrev Inv-loop : tie.InvT-loop
+Inv-loop from f to₀ p w n y₀ to y =
+    (w .y0 ≤ y) × (y ≤ w .y1) × (n ≡ 3 * width w) × (length to ≡ length to₀) × (to ≡ copied nan 3 f p w from to₀ y)
+
+abbrev μ-loop : tie.MeasureT-loop
+μ-loop from f to₀ p w n y₀ to y = w .y1 - y
+
+-- both rows lie in their lists
+from-room : (c : tie.After-row-start2 Inv-loop μ-loop) →
+    (c .before .row-start .result + 3 * width (c .before .before .before .before .before .before .before .before .args .w) ≤ length (c .before .before .before .before .before .before .before .before .args .from .now))
+    × (length (c .before .before .before .before .before .before .before .before .args .from .now) ≤ 50331648)
+from-room c =
+    let s = c .before .before .before .before .before .before .before .before in
+    let l = c .before .before .before .before .loop in
+    let h = s .pre .0 .0 in
+    let room = row-room 3 (s .args .f) (s .args .w) (l .y) (h .within) (h .columns) (l .inv .0) (c .before .before .if1 .taken) in
+    (omega (arith, room, c .before .row-start .ensures, s .pre .1 .0), omega (arith, held-area (s .args .f) (s .args .w) h, s .pre .1 .0))
+
+to-room : (c : tie.After-row-start2 Inv-loop μ-loop) →
+    (c .row-start2 .result + 3 * width (c .before .before .before .before .before .before .before .before .args .w) ≤ length (c .before .before .before .before .loop .to))
+    × (length (c .before .before .before .before .loop .to) ≤ 50331648)
+to-room c =
+    let s = c .before .before .before .before .before .before .before .before in
+    let l = c .before .before .before .before .loop in
+    let h = s .pre .0 .1 in
+    let room = row-room 3 (s .args .p) (s .args .w) (l .y) (h .within) (h .columns) (l .inv .0) (c .before .before .if1 .taken) in
+    (omega (arith, room, c .row-start2 .ensures, s .pre .1 .1, l .inv .3), omega (arith, held-area (s .args .p) (s .args .w) h, s .pre .1 .1, l .inv .3))
+
+sub-n : tie.Need-sub-n Inv-loop μ-loop
+sub-n c = search needs
+
+mul-n : tie.Need-mul-n Inv-loop μ-loop
+mul-n c = search needs
+
+loop-holds : tie.Need-loop-holds Inv-loop μ-loop
+unfolding width
+loop-holds c =
+    let s = c .before .before .before in
+    let h = s .pre .0 in
+    (omega arith, h .0 .lines, refl, refl, sym (rows-none nan 3 (s .args .f) (s .args .p) (s .args .w) (s .args .from .now) (s .args .to .now) (h .0 .within) (h .1 .within) (h .0 .columns) (s .pre .1 .1)))
+
+row-start-requires : tie.Need-row-start-requires Inv-loop μ-loop
+row-start-requires c κs = search needs
+
+row-start-requires-2 : tie.Need-row-start-requires-2 Inv-loop μ-loop
+row-start-requires-2 c κs = search needs
+
+add-copy-values : tie.Need-add-copy-values Inv-loop μ-loop
+unfolding width
+add-copy-values c = omega (arith, from-room c)
+
+mul-copy-values : tie.Need-mul-copy-values Inv-loop μ-loop
+unfolding width
+mul-copy-values c = omega (arith, from-room c)
+
+sub-copy-values : tie.Need-sub-copy-values Inv-loop μ-loop
+sub-copy-values c = search needs
+
+part-copy-values-start : tie.Need-part-copy-values-start Inv-loop μ-loop
+part-copy-values-start c = search needs
+
+part-copy-values-end : tie.Need-part-copy-values-end Inv-loop μ-loop
+unfolding width
+part-copy-values-end c = omega (arith, from-room c)
+
+add-copy-values-2 : tie.Need-add-copy-values-2 Inv-loop μ-loop
+unfolding width
+add-copy-values-2 c = omega (arith, to-room (c .before))
+
+mul-copy-values-2 : tie.Need-mul-copy-values-2 Inv-loop μ-loop
+unfolding width
+mul-copy-values-2 c = omega (arith, to-room (c .before))
+
+sub-copy-values-2 : tie.Need-sub-copy-values-2 Inv-loop μ-loop
+sub-copy-values-2 c = search needs
+
+part-copy-values-start-2 : tie.Need-part-copy-values-start-2 Inv-loop μ-loop
+part-copy-values-start-2 c = search needs
+
+part-copy-values-end-2 : tie.Need-part-copy-values-end-2 Inv-loop μ-loop
+unfolding width
+part-copy-values-end-2 c = omega (arith, to-room (c .before))
+
+copy-values-requires : tie.Need-copy-values-requires Inv-loop μ-loop
+copy-values-requires c κs = search needs
+
+add-y : tie.Need-add-y Inv-loop μ-loop
+add-y c = search needs
+
+loop-less : tie.Need-loop-less Inv-loop μ-loop
+loop-less c = search needs
+
+loop-again : tie.Need-loop-again Inv-loop μ-loop
+unfolding width
+loop-again c =
+    let at = c .before .before .before .before .before in
+    let s = at .before .before .before .before .before .before .before .before in
+    let l = at .before .before .before .before .loop in
+    let h = s .pre .0 in
+    let below = at .before .before .if1 .taken in
+    let e = turn nan 3 (s .args .f) (s .args .p) (s .args .w) (s .args .from .now) (s .args .to .now) (h .0 .within) (h .1 .within) (h .0 .columns)
+    (l .y) (at .before .row-start .result) (at .row-start2 .result) _ (l .to) (c .before .before .copy-values .last .1 .0) (l .inv .0) below (s .pre .1 .0)
+    (at .before .row-start .ensures) (at .row-start2 .ensures) (l .inv .2) (l .inv .4) (c .before .before .copy-values .ensures) in
+    (omega (arith, l .inv .0), omega (arith, below), refl, ap length e ∙ length-paste nan 3 _ _ _ _ ∙ sym (s .pre .1 .1), e)
+
+same-length : tie.Need-same-length Inv-loop μ-loop
+same-length c = c .before .before .loop .inv .3
+
+returns : tie.Need-returns Inv-loop μ-loop
+returns c =
+    let s = c .before .before .before .before .before .before in
+    let l = c .before .before .loop in
+    let h = s .pre .0 in
+    l .inv .4 ∙ rows-all nan 3 (s .args .f) (s .args .p) (s .args .w) (s .args .from .now) (s .args .to .now) (h .0 .within) (h .1 .within) (h .0 .columns) (l .y) (omega (arith, l .inv .1, c .if1 .left))
+
+pub copy-cpe-spec : {M : Type 1} → statement M
+copy-cpe-spec =
+    tie.close
+    (tie.spec
+    Inv-loop
+    μ-loop
+    sub-n
+    mul-n
+    loop-holds
+    row-start-requires
+    row-start-requires-2
+    add-copy-values
+    mul-copy-values
+    sub-copy-values
+    part-copy-values-start
+    part-copy-values-end
+    add-copy-values-2
+    mul-copy-values-2
+    sub-copy-values-2
+    part-copy-values-start-2
+    part-copy-values-end-2
+    copy-values-requires
+    add-y
+    loop-less
+    loop-again
+    same-length
+    returns)
