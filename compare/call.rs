@@ -48,7 +48,8 @@ impl Call {
     /// The buffers as long as document 01 wants them. A cell holds a pattern of its own, for floats
     /// the bits of a NaN, which no computation leaves.
     pub fn lend(&mut self) {
-        let floats = |len: usize, name: u64| (0..len as u64).map(|i| 0x7ff4_0000_0000_0000 + (name << 32) + i).collect();
+        let floats =
+            |len: usize, name: u64| (0..len as u64).map(|i| 0x7ff4_0000_0000_0000 + (name << 32) + i).collect();
         self.lent.cpe = floats(self.pixels.len(), 1);
         self.lent.cpp = floats(CPP_LEN, 2);
         self.lent.accepted_per_pass = (0..self.max_passes as u32).map(|i| 0xc0de_0000 + i).collect();
@@ -56,9 +57,9 @@ impl Call {
     }
 
     pub fn same_to_measure(&self, other: &Self) -> bool {
-        let image = |c: &Self| (c.width, c.height, c.ppi, c.viewing_distance_cm);
-        let bytes = |c: &Self| [&c.pixels, &c.palette, &c.lent.indices].map(Vec::clone);
-        image(self) == image(other) && bytes(self) == bytes(other)
+        let numbers = |c: &Self| (c.width, c.height, c.ppi, c.viewing_distance_cm);
+        numbers(self) == numbers(other)
+            && (&self.pixels, &self.palette, &self.lent.indices) == (&other.pixels, &other.palette, &other.lent.indices)
     }
 }
 

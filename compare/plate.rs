@@ -1,24 +1,28 @@
-//! The copy of the Rust on the input of document 01's program `plate`.
+//! The input of document 01's program `plate`, refined by the copy of the Rust and by the library.
 
-use crate::original::{dbs_refine, perceived_error, DbsParams, SrgbPalette};
-use crate::Section;
+use crate::call::{Call, Measured, Refined};
+use crate::plates::program_plate;
+use crate::{expected, library, Section};
 
 pub fn compare() -> Section {
     let mut section = Section::new("answers of plate");
-    let pixels = [0, 0, 0, 255, 255, 255];
-    let palette = SrgbPalette { colors: vec![[0, 0, 0], [255, 255, 255]] };
-    let params = DbsParams { viewing_distance_cm: 40.0, ppi: 127.0, max_passes: 10 };
-    let measure = |indices: &[u8]| perceived_error(&pixels, 2, 1, &palette, indices, &params);
-
-    let mut indices = [1, 0];
-    let before = measure(&indices);
-    let (stats, _) = dbs_refine(&pixels, 2, 1, &palette, &mut indices, None, &params);
-    section.compare("indices", indices, [0, 1]);
-    section.compare("passes", stats.passes, 2);
-    section.compare("accepted", stats.accepted_per_pass, vec![1, 0]);
-    // Both functions compute the same error, each with roundings of its own.
-    let near = |a: f64, b: f64| (a - b).abs() <= 1e-9 * before;
-    section.compare("initial error", near(stats.initial_error, before), true);
-    section.compare("final error", near(stats.final_error, measure(&indices)), true);
+    answers(&mut section, "the copy", expected::refine, expected::measure);
+    answers(&mut section, "the library", library::refine, library::measure);
     section
+}
+
+fn answers(section: &mut Section, side: &str, refine: fn(&Call) -> Refined, measure: fn(&Call) -> Measured) {
+    let mut call = program_plate();
+    call.lend();
+    let before = f64::from_bits(measure(&call).error);
+    let refined = refine(&call);
+    call.lent.indices = refined.lent.indices;
+    let after = f64::from_bits(measure(&call).error);
+    section.compare(format_args!("indices of {side}"), &call.lent.indices[..], &[0, 1]);
+    section.compare(format_args!("passes of {side}"), refined.passes, 2);
+    section.compare(format_args!("accepted of {side}"), &refined.lent.accepted_per_pass[..2], &[1, 0]);
+    // Refining and measuring compute the same error, each with roundings of its own.
+    let near = |bits: u64, error: f64| (f64::from_bits(bits) - error).abs() <= 1e-9 * before;
+    section.compare(format_args!("initial error of {side}"), near(refined.initial_error, before), true);
+    section.compare(format_args!("final error of {side}"), near(refined.final_error, after), true);
 }

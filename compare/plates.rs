@@ -23,6 +23,8 @@ pub fn groups(seed: u64, scale: f64) -> Vec<Group> {
     group("every blur radius", radii(&mut r));
     group("passes 0, 1, 2, 10, 1000", passes(&mut r, many(100)));
     group("random eyes, no pass", (0..many(10_000)).map(|_| random_eye_plate(&mut r)).collect());
+    group("swaps of equal cost", equal_swaps());
+    group("few colours, equal costs", (0..many(5000)).map(|_| equal_costs(&mut r)).collect());
     group("random plates", (0..many(30_000)).map(|_| random_plate(&mut r)).collect());
     groups
 }
@@ -149,6 +151,44 @@ fn random_eye_plate(r: &mut Random) -> Call {
     plate(r, width, height, inks, eye)
 }
 
+/// For each two neighbour codes in turn a plate on which the pixel (1, 1) swaps with either at the same
+/// cost. The inks are greys, 1 nearer to 0 than to 2, whose differences are exact, and the eye does not
+/// blur. The pixel is 0 and should be 1. A neighbour visited later is 1 and should be 0. One visited
+/// earlier is so once it has swapped with a partner: it starts as 2, the partner as 1 and should be 2.
+pub fn equal_swaps() -> Vec<Call> {
+    const NEIGHBOURS: [(usize, usize); 8] = [(0, 0), (1, 0), (2, 0), (0, 1), (2, 1), (0, 2), (1, 2), (2, 2)];
+    const PARTNERS: [(usize, usize); 4] = [(0, 1), (2, 1), (3, 0), (0, 2)];
+    const GREYS: [[u8; 3]; 3] = [[188; 3], [216; 3], [255; 3]];
+    let plate = |first: usize| {
+        let (mut start, mut wanted) = ([0; 12], [0; 12]);
+        let mut put = |(x, y), from, to| (start[4 * y + x], wanted[4 * y + x]) = (from, to);
+        put((1, 1), 0, 1);
+        for code in [first, first + 1] {
+            if code < 4 {
+                put(NEIGHBOURS[code], 2, 0);
+                put(PARTNERS[code], 1, 2);
+            } else {
+                put(NEIGHBOURS[code], 1, 0);
+            }
+        }
+        let pixels = wanted.map(|ink: usize| GREYS[ink]);
+        let params = DbsParams { max_passes: 1, ..smallest() };
+        call(4, 3, pixels.as_flattened(), GREYS.as_flattened(), &start, &[], params)
+    };
+    (0..7).map(plate).collect()
+}
+
+/// Few colours before eyes that hardly blur: the costs of several moves are often equal.
+fn equal_costs(r: &mut Random) -> Call {
+    let eye = r.pick(&[smallest(), reach(1, 0.1), reach(1, 1.0)]);
+    let params = DbsParams { max_passes: r.pick(&[1, 2, 10]), ..eye };
+    let (width, height, inks) = (r.between(2, 6), r.between(2, 6), r.between(2, 6));
+    let mut plate = plate(r, width, height, inks, params);
+    let colours: [[u8; 3]; 2] = std::array::from_fn(|_| std::array::from_fn(|_| r.byte()));
+    plate.pixels.chunks_exact_mut(3).for_each(|pixel| pixel.copy_from_slice(&r.pick(&colours)));
+    plate
+}
+
 fn random_plate(r: &mut Random) -> Call {
     let (width, height) = match r.below(100) {
         0 => (r.between(60, 140), r.between(1, 20)),
@@ -170,7 +210,17 @@ pub fn reach(whole: u32, part: f64) -> DbsParams {
     // Below 1 the luminance σ must stay above 0.05, chrominance 2.5σ above 0.28.
     let low = (f64::from(whole) - 1.0).max(0.28);
     let wanted = low + (f64::from(whole) - low) * part;
-    if part == 1.0 { at } else { eye(at.ppi * wanted / f64::from(whole), at.viewing_distance_cm) }
+    if part == 1.0 {
+        at
+    } else {
+        eye(at.ppi * wanted / f64::from(whole), at.viewing_distance_cm)
+    }
+}
+
+/// The eye of luminance σ 0.05 at 10 cm.
+pub fn smallest() -> DbsParams {
+    let [_, at, _] = around(|e| eye_sigmas(e)[0], 0.05, 10);
+    at
 }
 
 /// Any blur radius, at a distance of any magnitude.
@@ -207,7 +257,8 @@ pub fn plate(r: &mut Random, width: u64, height: u64, inks: u64, params: DbsPara
             _ => r.below(inks),
         } as u8)
         .collect();
-    let mask = |r: &mut Random, unpinned: u64| (0..n).map(|_| if r.below(8) < unpinned { 0 } else { r.byte() }).collect();
+    let mask =
+        |r: &mut Random, unpinned: u64| (0..n).map(|_| if r.below(8) < unpinned { 0 } else { r.byte() }).collect();
     let pinned: Vec<u8> = match r.below(8) {
         0 => (0..n).map(|_| r.byte() | 1).collect(),
         1 => vec![0; n],

@@ -122,7 +122,9 @@ fn changes() -> Vec<Change> {
     add(each(3, &[0, 18, 262], |c, len| c.lent.indices.resize(len, 0)));
     add(each(4, &nearby, |c, by| extend(&mut c.pinned, by)));
     add(each(4, &[0, 1, 6, 18, 262], |c, len| c.pinned.resize(len, 1)));
-    add(each(5, &[0, 1, 2, 3, 4, 5, 7, 8, 9, 767, 768, 769, 770, 771, 774, 1536, 196_614], |c, len| c.palette.resize(len, 90)));
+    add(each(5, &[0, 1, 2, 3, 4, 5, 7, 8, 9, 767, 768, 769, 770, 771, 774, 1536, 196_614], |c, len| {
+        c.palette.resize(len, 90)
+    }));
     add(each(5, &[3, 768, 771], |c, len| (c.palette.resize(len, 90), c.lent.inks.resize(len, 90)).1));
     add(each(6, &[0, 2, 5], |c, place| name_ink(c, place, 0)));
     add(each(6, &[0, 2, 5], |c, place| name_ink(c, place, 1)));

@@ -3,7 +3,7 @@
 use crate::call::{Call, Measured, Refined};
 use crate::eyes::{around, checksum, eye, halves};
 use crate::original::{eye_sigmas, DbsParams};
-use crate::plates::{call, plate, program_plate, random_eye, reach};
+use crate::plates::{call, equal_swaps, plate, program_plate, random_eye, reach, smallest};
 use crate::random::Random;
 use crate::{expected, library, Section};
 
@@ -100,7 +100,11 @@ fn hexadecimal(bytes: &[u8]) -> String {
 }
 
 fn or_none(word: String) -> String {
-    if word.is_empty() { "-".to_string() } else { word }
+    if word.is_empty() {
+        "-".to_string()
+    } else {
+        word
+    }
 }
 
 fn groups() -> Vec<(&'static str, Vec<Call>)> {
@@ -109,6 +113,8 @@ fn groups() -> Vec<(&'static str, Vec<Call>)> {
         ("No row; one pixel; one ink.", no_row_one_pixel()),
         ("Pins: none, the first, the second, both; any byte but 0.", pins()),
         ("Equal inks.", equal_inks()),
+        ("Equal swaps: neighbour codes 0 and 1, 1 and 2, and so on to 6 and 7.", equal_swaps()),
+        ("Gains below and just above 1e-9.", small_gains()),
         ("0, 1, 2, 10 and 1,000 passes allowed.", passes()),
         ("The smallest eye, kernel radius 30, 32, and 32 at the limit.", eyes()),
         ("256 inks.", vec![lively(&mut Random(3), 4, 3, 256, allowed(10))]),
@@ -156,8 +162,20 @@ fn pins() -> Vec<Call> {
 fn equal_inks() -> Vec<Call> {
     let palette = [BLACK_WHITE, [255, 255, 255, 200, 30, 30]].concat();
     [[0, 0, 0, 0], [2, 0, 1, 3]]
-        .map(|start| call(4, 1, &[240, 240, 240, 9, 9, 9, 250, 90, 90, 255, 255, 255], &palette, &start, &[], allowed(10)))
+        .map(|start| {
+            call(4, 1, &[240, 240, 240, 9, 9, 9, 250, 90, 90, 255, 255, 255], &palette, &start, &[], allowed(10))
+        })
         .to_vec()
+}
+
+fn small_gains() -> Vec<Call> {
+    let (pink, brown, blue) = ([200, 40, 90], [150, 148, 104], [14, 152, 204]);
+    let panel = [25, 30, 33, 232, 232, 232];
+    let eye = DbsParams { max_passes: 10, ..reach(1, 0.1) };
+    vec![
+        call(2, 1, [pink, pink].as_flattened(), &BLACK_WHITE, &[0, 1], &[], allowed(10)),
+        call(3, 2, [brown, brown, brown, blue, brown, blue].as_flattened(), &panel, &[1, 0, 1, 0, 0, 0], &[], eye),
+    ]
 }
 
 /// The first random plate that the copy of the Rust moves in two passes or more.
@@ -179,8 +197,7 @@ fn passes() -> Vec<Call> {
 
 fn eyes() -> Vec<Call> {
     let mut r = Random(5);
-    let [_, smallest, _] = around(|e| eye_sigmas(e)[0], 0.05, 10);
-    [smallest, reach(15, 1.0), reach(16, 0.5), reach(16, 1.0)]
+    [smallest(), reach(15, 1.0), reach(16, 0.5), reach(16, 1.0)]
         .map(|eye| lively(&mut r, 4, 3, 4, DbsParams { max_passes: 10, ..eye }))
         .to_vec()
 }
@@ -198,7 +215,7 @@ fn tiles() -> Vec<Call> {
 
 fn random() -> Vec<Call> {
     let mut r = Random(7);
-    (0..16)
+    (0..14)
         .map(|_| {
             let (width, height, inks) = (r.between(2, 5), r.between(2, 4), r.between(2, 6));
             let eye = random_eye(&mut r);
