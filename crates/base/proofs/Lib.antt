@@ -5,3 +5,4 @@ pub mod GridLaws
 pub mod MirrorLaws
 pub mod PartLaws
 pub mod RefusalLaws
+pub mod JudgeLaws

@@ -3,6 +3,7 @@ use Prim.Native.Nat.{ℕ}
 use mathlib.Core.Path.{_≡_}
 use mathlib.Core.Bool.{Bool, false, cond}
 use mathlib.Core.List.{List, [], _∷_}
+use lib.Dec.{eqb}
 use Rattle.base.specs.declared.Status.{Status}
 
 pub record Test : Type 0 where
@@ -23,6 +24,10 @@ accepted = status 0 0
 unfoldable pub judge : List Test → Status
 judge [] = accepted
 judge (t ∷ ts) = let rest = judge ts in cond (t .fails) (status (t .number) (t .place)) rest
+
+-- the judgement of one list of tests and then another: the first refusal, if there is one
+abbrev pub firstRefusal : Status → Status → Status
+firstRefusal s t = cond (eqb (s .number) 0) t s
 
 -- no test fails
 unfoldable pub Passes : List Test → Type 0

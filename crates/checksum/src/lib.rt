@@ -1,21 +1,5 @@
-// Floats as bits, and checksums of lent buffers, for the programs that are held to the copy of the Rust.
+// Checksums of lent buffers, for the programs that are held to the copy of the Rust.
 ghost use Prim.Native.Nat.{_<_};
-
-// The f64 of these bits, a NaN for those of a NaN.
-pub fn value(bits: u64) -> f64 {
-    if bits % 0x8000_0000_0000_0000 > 0x7ff0_0000_0000_0000 {
-        return 0.0 / 0.0;
-    }
-    f64::from_bits(bits)
-}
-
-// The bits of x, 0 for a NaN.
-pub fn bits(x: f64) -> u64 {
-    if x == x {
-        return f64::to_bits(x);
-    }
-    0
-}
 
 // One step of the checksum.
 pub fn mix(h: u64, half: u64) -> u64
@@ -32,7 +16,7 @@ pub fn floats(h: u64, values: &[f64]) -> u64
 {
     let mut sum = h;
     for i in 0..values.len() {
-        let b = bits(values[i]);
+        let b = bits::of_float(values[i]);
         sum = mix(mix(sum, b / 4294967296), b % 4294967296);
     }
     sum

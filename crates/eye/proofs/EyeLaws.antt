@@ -11,9 +11,10 @@ use lib.Ieee.{Float, nan, inf, fin, up, down, lt, le, mul, div, ofBits}
 use lib.Ieee.Positive.{positive, first-pos}
 use Rattle.base.specs.F64.{_*f_, _/f_, f2}
 use Rattle.base.specs.declared.Status.{Status}
-use Rattle.base.specs.Refusal.{Test, judge, accepted, Passes}
+use Rattle.base.specs.Refusal.{judge, accepted, Passes}
 use Rattle.base.proofs.Bounds.{product-le}
-use Rattle.base.proofs.RefusalLaws.{Numbered, passes-of, judge-none, judge-pass, judge-fail}
+use Rattle.base.proofs.RefusalLaws.{Numbered, passes-of}
+use Rattle.base.proofs.JudgeLaws.{judge-zero}
 use Rattle.eye.specs.declared.DbsParams.{DbsParams}
 use Rattle.eye.specs.Constants.{alphaLum, alphaChroma, cmPerInch, pi, f180}
 use Rattle.eye.specs.Eye.{toDegrees, sigmaPx, truncation, blurRadius, kernelRadius, KernelRadius, Narrow, isFinitePositive, eyeTests, eye, eyeOf}
@@ -77,16 +78,6 @@ eye-status p = go (eqb (judge (eyeTests p) .number) 0)
     go : (b : Bool) → (cond b (eye (judge (eyeTests p)) (kernelRadius alphaLum p) (kernelRadius alphaChroma p)) (eye (judge (eyeTests p)) 0 0)) .status ≡ judge (eyeTests p)
     go true = refl
     go false = refl
-
--- the number 0 means accepted
-judge-zero : (ts : List Test) → Numbered ts → judge ts .number ≡ 0 → judge ts ≡ accepted
-unfolding Numbered
-judge-zero [] n e = judge-none
-judge-zero (t ∷ ts) n e = go (t .fails) refl (judge-zero ts (n .1))
-  where
-    go : (b : Bool) → t .fails ≡ b → (judge ts .number ≡ 0 → judge ts ≡ accepted) → judge (t ∷ ts) ≡ accepted
-    go true f rest = let z : t .number ≡ 0 = ap (λ (s : Status). s .number) (sym (judge-fail t ts f)) ∙ e in absurd (omega (arith, n .0, z))
-    go false f rest = judge-pass t ts f ∙ rest (ap (λ (s : Status). s .number) (sym (judge-pass t ts f)) ∙ e)
 
 pub eye-accepted : (p : DbsParams) → eyeOf p .status .number ≡ 0 → judge (eyeTests p) ≡ accepted
 unfolding eyeTests Numbered

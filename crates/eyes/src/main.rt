@@ -185,8 +185,8 @@ fn line(ppi: u64, distance: u64, cpp: &mut [f64])
     io::write_all(STDOUT, b" ");
     io::print_hex(STDOUT, distance, 16);
     let params = DbsParams {
-        viewing_distance_cm: checksum::value(distance),
-        ppi: checksum::value(ppi),
+        viewing_distance_cm: bits::to_float(distance),
+        ppi: bits::to_float(ppi),
     };
     answer(params, cpp);
     io::write_all(STDOUT, b"\n");

@@ -8,12 +8,12 @@ use borrow.Author.Tests.{eq-eqb, ne-eqb}
 use lib.Dec.{eqb}
 use lib.ListN.{length}
 use Rattle.base.specs.declared.Status.{Status}
-use Rattle.base.specs.Refusal.{Test, judge, accepted}
+use Rattle.base.specs.Refusal.{Test, judge, accepted, firstRefusal}
 use Rattle.base.proofs.RefusalLaws.{Numbered}
 use Rattle.eye.specs.Constants.{alphaLum, alphaChroma}
 use Rattle.eye.specs.Eye.{eye, eyeTests, eyeOf, kernelRadius}
-use Rattle.input.specs.Input.{Input, firstRefusal, imageTests, inkTests, inputTests, checkedOf}
-use Rattle.input.proofs.JudgeLaws.{judge-append, judge-zero}
+use Rattle.input.specs.Input.{Input, imageTests, inkTests, inputTests, checkedOf}
+use Rattle.base.proofs.JudgeLaws.{judge-append, judge-zero}
 
 -- the first two of an input's lists
 abbrev pub imageTestsOf : Input → List Test

@@ -1,6 +1,5 @@
-pub mod JudgeLaws
 pub mod FirstUnnamed
-mod Limits
+pub mod Limits
 mod EyeValidity
 pub mod InputLaws
 pub mod Validity

@@ -34,10 +34,6 @@ pixelCount I = I .height * I .width
 unfoldable pub inkCount : Input → ℕ
 inkCount I = length (I .palette) / 3
 
--- the judgement of one list of tests and then another: the first refusal, if there is one
-abbrev pub firstRefusal : Status → Status → Status
-firstRefusal s t = cond (eqb (s .number) 0) t s
-
 -- ---- rows 1 to 9: an image, its halftone and the eye
 
 abbrev pub within : ℕ → ℕ → ℕ → Bool

@@ -7,9 +7,9 @@ use eye::DbsParams;
 use eye::Eye;
 ghost use mathlib.Core.Path.{_≡_};
 ghost use mathlib.Core.List.{[], _∷_};
-ghost use Rattle.base.specs.Refusal.{test, judge};
+ghost use Rattle.base.specs.Refusal.{test, judge, firstRefusal};
 ghost use Rattle.eye.specs.Eye.{eye};
-ghost use Rattle.input.specs.Input.{within, sizeFits, maskFits, paletteFits, firstUnnamed, firstRefusal, imageTests, inkTests, input, checkedOf, lengthTest, runTests, refineRunTests, openRunTests};
+ghost use Rattle.input.specs.Input.{within, sizeFits, maskFits, paletteFits, firstUnnamed, imageTests, inkTests, input, checkedOf, lengthTest, runTests, refineRunTests, openRunTests};
 
 // The largest width and height.
 const MAX_SIDE: u64 = 4096;
@@ -22,7 +22,7 @@ const MAX_PASSES: u64 = 1000;
 const CPP_LEN: usize = 8450;
 
 // One test.
-fn refuse_if(fails: bool, number: u64, place: u64) -> Status
+pub fn refuse_if(fails: bool, number: u64, place: u64) -> Status
     ensures { λ r. ⌜ r ≡ judge (test fails number place ∷ []) ⌝ }
 {
     if fails {
@@ -35,7 +35,7 @@ fn refuse_if(fails: bool, number: u64, place: u64) -> Status
 }
 
 // Of two judgements the first that refuses.
-fn first_refusal(first: Status, second: Status) -> Status
+pub fn first_refusal(first: Status, second: Status) -> Status
     ensures { λ r. ⌜ r ≡ firstRefusal first second ⌝ }
 {
     if first.number == 0 {
@@ -44,21 +44,21 @@ fn first_refusal(first: Status, second: Status) -> Status
     first
 }
 
-fn is_within(low: u64, x: u64, high: u64) -> bool
+pub fn is_within(low: u64, x: u64, high: u64) -> bool
     ensures { λ r. ⌜ r ≡ within low x high ⌝ }
 {
     low <= x && x <= high
 }
 
 // A width of 1 to 4,096 and a height of 0 to 4,096.
-fn is_size(width: u64, height: u64) -> bool
+pub fn is_size(width: u64, height: u64) -> bool
     ensures { λ r. ⌜ r ≡ sizeFits width height ⌝ }
 {
     is_within(1, width, MAX_SIDE) && height <= MAX_SIDE
 }
 
 // No mask, or a byte for each of n pixels.
-fn is_mask(pinned_len: usize, n: usize) -> bool
+pub fn is_mask(pinned_len: usize, n: usize) -> bool
     ensures { λ r. ⌜ r ≡ maskFits «pinned_len» n ⌝ }
 {
     pinned_len == 0 || pinned_len == n
@@ -104,7 +104,7 @@ fn wide(b: u8) -> usize
 }
 
 // The place of the first index that names none of n inks, or the length.
-fn first_unnamed(indices: &[u8], n: usize) -> usize
+pub fn first_unnamed(indices: &[u8], n: usize) -> usize
     ensures { λ r. ⌜ r ≡ firstUnnamed n (now (indices .entry)) ⌝ }
 {
     let mut i = 0;
@@ -162,7 +162,7 @@ pub fn check_input(
 }
 
 // A line of refusal 11.
-fn check_length(buffer: u64, len: usize, wanted: usize) -> Status
+pub fn check_length(buffer: u64, len: usize, wanted: usize) -> Status
     ensures { λ r. ⌜ r ≡ judge (lengthTest buffer len wanted ∷ []) ⌝ }
 {
     refuse_if(len != wanted, 11, buffer)

@@ -2,7 +2,7 @@
 -- what it was given. All of them judge their tests and then choose, so one law serves them all. Assumes nothing.
 use Prim.Native.Nat.{ℕ}
 use native.Mathlib.Omega.{arith}
-use mathlib.Core.Path.{_≡_, refl, sym, ap₂, _∙_}
+use mathlib.Core.Path.{_≡_, refl, sym, ap, ap₂, _∙_}
 use mathlib.Core.Logic.{_↔_, _≢_}
 use mathlib.Core.Bool.{Bool, true, false, cond}
 use mathlib.Core.List.{List}
@@ -14,6 +14,7 @@ use Rattle.base.specs.declared.Status.{Status}
 use Rattle.base.specs.F64.{f0}
 use Rattle.base.specs.Refusal.{Test, judge, accepted, Passes}
 use Rattle.base.proofs.RefusalLaws.{Numbered, accepted-of, passes-of}
+use Rattle.base.proofs.JudgeLaws.{passes-of-zero, judge-zero}
 use Rattle.tiling.specs.Tiling.{tiles}
 use Rattle.input.proofs.Validity.{open-numbered}
 use Rattle.prepare.specs.Prepare.{tilingOf, inksOf, cppOf, cpeOf}
@@ -48,6 +49,10 @@ pub record Answers {A : Type 0} (status : A → Status) (ts : List Test) (new ol
   pub accepts : (status given ≡ accepted) ↔ Passes ts
   pub leaves : status given ≡ accepted → given ≡ new accepted
   pub keeps : status given ≢ accepted → given ≡ old (status given)
+  -- as code makes it, which has judged the tests and looks at the number
+  pub passed : (s : Status) → s ≡ judge ts → s .number ≡ 0 → Passes ts
+  pub made : (s : Status) → s ≡ judge ts → s .number ≡ 0 → new s ≡ given
+  pub kept : (s : Status) → s ≡ judge ts → (s .number ≡ 0 → ⊥) → old s ≡ given
 
 answers : {A : Type 0} (status : A → Status) (ts : List Test) (new old : Status → A) → Numbered ts → ((s : Status) → status (new s) ≡ s) → ((s : Status) → status (old s) ≡ s) →
     Answers status ts new old (cond (isAccepted (judge ts)) (new (judge ts)) (old (judge ts)))
@@ -55,8 +60,14 @@ answers {A} status ts new old numbered sy sn = record {
   accepts = (λ e. passes-of ts numbered (sym is ∙ e), λ p. is ∙ accepted-of ts p);
   leaves = λ e. rw (sym is ∙ e, is-accepted);
   keeps = λ n. let other = not-accepted (judge ts) (λ e. n (is ∙ e)) in rw (other, sn (judge ts));
+  passed = λ s e z. passes-of-zero ts numbered (number s e ∙ z);
+  made = λ s e z. rw (e, judge-zero ts numbered (number s e ∙ z), is-accepted);
+  kept = λ s e f. let other = not-accepted (judge ts) (λ q. f (ap (λ (u : Status). u .number) (e ∙ q))) in rw (e, other);
 }
   where
+    number : (s : Status) → s ≡ judge ts → judge ts .number ≡ s .number
+    number s e = ap (λ (u : Status). u .number) (sym e)
+
     is : status (cond (isAccepted (judge ts)) (new (judge ts)) (old (judge ts))) ≡ judge ts
     is = go (isAccepted (judge ts))
       where

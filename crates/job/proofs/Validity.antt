@@ -17,7 +17,7 @@ use Rattle.base.proofs.LoopLaws.{upTo-ind}
 use Rattle.eye.specs.Eye.{KernelRadius}
 use Rattle.tiling.specs.Tiling.{tiles, inPhase, tile, region}
 use Rattle.input.specs.Input.{within, maskFits}
-use Rattle.input.proofs.JudgeLaws.{passes-append}
+use Rattle.base.proofs.JudgeLaws.{passes-append}
 use Rattle.input.proofs.FirstUnnamed.{named-of, of-named}
 use Rattle.tile.specs.Tile.{State}
 use Rattle.job.specs.declared.JobRecord.{JobRecord}
@@ -38,13 +38,13 @@ within-of low x high h = let b = both (leb low x) (leb x high) h in (leb-true _ 
 of-within : (low x high : ℕ) → low ≤ x → x ≤ high → within low x high ≡ true
 of-within low x high p q = and-true (le-leb _ _ p) (le-leb _ _ q)
 
-equal-of : (a b : ℕ) → not (eqb a b) ≡ false → a ≡ b
+pub equal-of : (a b : ℕ) → not (eqb a b) ≡ false → a ≡ b
 equal-of a b h = eqb-true a b (not-false _ h)
 
 of-equal : (a b : ℕ) → a ≡ b → not (eqb a b) ≡ false
 of-equal a b h = rw (eq-eqb a b h)
 
-mask-of : (pinned n : ℕ) → maskFits pinned n ≡ true → 0 < pinned → pinned ≡ n
+pub mask-of : (pinned n : ℕ) → maskFits pinned n ≡ true → 0 < pinned → pinned ≡ n
 mask-of pinned n e h = let z : eqb pinned 0 ≡ false = ne-eqb pinned 0 (λ q. omega arith) in eqb-true pinned n (rw z at e)
 
 of-mask : (pinned n : ℕ) → (0 < pinned → pinned ≡ n) → maskFits pinned n ≡ true
@@ -67,7 +67,7 @@ of-radius R k = and-true (eq-eqb _ _ (k .even)) (of-within 2 R 32 (k .low) (k .h
 
 -- ---- row 12
 
-record-of : (r : JobRecord) → Passes (recordTests r) → ValidRecord r
+pub record-of : (r : JobRecord) → Passes (recordTests r) → ValidRecord r
 unfolding recordTests Passes
 record-of r p =
     let T = r .plan .tiling in
@@ -107,7 +107,7 @@ of-record r v =
     go true f = refl
     go false f = lt-leb _ _ (f refl)
 
-due-of : (r : JobRecord) (t : ℕ) → not (isDue r t) ≡ false → (t < tiles (r .plan .tiling)) × (inPhase (r .plan .tiling) (r .phase) t ≡ true)
+pub due-of : (r : JobRecord) (t : ℕ) → not (isDue r t) ≡ false → (t < tiles (r .plan .tiling)) × (inPhase (r .plan .tiling) (r .phase) t ≡ true)
 unfolding isDue
 due-of r t h = let b = both (ltb t (tiles (r .plan .tiling))) (inPhase (r .plan .tiling) (r .phase) t) (not-false _ h) in (ltb-true _ _ (b .0), b .1)
 

@@ -3,14 +3,15 @@
 use Prim.Native.Nat.{ℕ, zero, suc, _^_, _≤_, _<_}
 use native.Mathlib.Omega.{arith}
 use mathlib.Core.Path.{_≡_, refl, sym, _∙_}
-use mathlib.Core.Bool.{Bool, true, false, cond, _&&_, false≢true}
+use mathlib.Core.Bool.{Bool, true, false, cond, _&&_}
 use mathlib.Core.List.{List}
 use lib.Dec.{T, eqb}
 use lib.ListN.{getD}
-use lib.Ieee.{Float, nan, inf, fin, binary64, ofBits, toBits, fits, isNan, nanBits}
+use lib.Ieee.{Float, binary64, ofBits, toBits, fits, isNan, nanBits}
 use lib.Ieee.Bits.{ofBits-toBits, toBits-ofBits, nanBits-is}
 use Rattle.base.specs.Loop.{table}
 use Rattle.base.proofs.TableLaws.{table-of}
+use Rattle.bits.proofs.NanLaws.{nan-only}
 use Rattle.job.specs.declared.JobRecord.{JobRecord}
 use Rattle.job.specs.Words.{decode, wordsWith, encode, wordOver, rewritten}
 use Rattle.job.specs.Companions.{Doubles, TwelveWords}
@@ -31,12 +32,6 @@ unfolding encode
 encoded r d = decode-words r _ _ (ofBits-toBits binary64 (r .plan .initial) (d .initial)) (ofBits-toBits binary64 (r .error) (d .error))
 
 -- ---- a float's word where another stood
-
-nan-only : (x : Float) → isNan x ≡ true → x ≡ nan
-unfolding isNan
-nan-only nan e = refl
-nan-only (inf s) e = absurd (false≢true e)
-nan-only (fin s m k) e = absurd (false≢true e)
 
 over-float : (old : ℕ) (x : Float) → T (fits binary64 x) → ofBits binary64 (wordOver old x) ≡ x
 unfolding wordOver

@@ -2,9 +2,9 @@
 -- A NaN has many bit patterns and is one float here: all of them decode to it, a word that still stands for its float stays as it came, and a new
 -- NaN is written as the pattern of `toBits`.
 use Prim.Native.Nat.{ℕ}
-use mathlib.Core.Bool.{not, cond, _&&_, _||_}
+use mathlib.Core.Bool.{not, cond, _&&_}
 use mathlib.Core.List.{List, [], _∷_}
-use lib.Dec.{eqb}
+use lib.Dec.{ltb, eqb}
 use lib.ListN.{length, getD}
 use lib.Ieee.{Float, binary64, ofBits, toBits, isNan, nanBits}
 use Rattle.base.specs.Refusal.{Test, test}
@@ -16,7 +16,7 @@ runTest words = test (not (eqb (length words) 12)) 12 0
 
 -- what a call that reads the record tests of its run: a finished word that is neither 1 nor 0 is outside its limits
 unfoldable pub wordsTests : List ℕ → List Test
-wordsTests words = runTest words ∷ test (not (eqb (getD words 11 0) 0 || eqb (getD words 11 0) 1)) 12 0 ∷ []
+wordsTests words = runTest words ∷ test (ltb 1 (getD words 11 0)) 12 0 ∷ []
 
 -- the record of a run of 12 numbers; past a shorter one's end a 0 is read, of which no answer tells
 unfoldable pub decode : List ℕ → JobRecord

@@ -20,7 +20,7 @@ use Rattle.error.specs.Error.{scene, SceneFits}
 use Rattle.input.specs.Input.{Input, pixelCount, inputTests, imageTests, inkTests, checkedOf}
 use Rattle.input.specs.Valid.{Valid}
 use Rattle.input.proofs.InputLaws.{input-numbered, checked-status}
-use Rattle.input.proofs.JudgeLaws.{passes-append}
+use Rattle.base.proofs.JudgeLaws.{passes-append}
 use Rattle.input.proofs.Validity.{valid-iff}
 use Rattle.measure.specs.Measure.{frame, perceivedOf, FrameFits}
 use Rattle.perceived.specs.Perceived.{Blur, errorOf, answer, refusal, measureOf}

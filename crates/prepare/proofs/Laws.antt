@@ -23,7 +23,7 @@ use Rattle.error.specs.Error.{Scene, scene, SceneFits, FieldFits, fieldOf, init
 use Rattle.input.specs.Input.{Input, pixelCount, inkCount, inputTests, imageTests, inkTests}
 use Rattle.input.specs.Valid.{Valid}
 use Rattle.input.proofs.InputLaws.{input-numbered}
-use Rattle.input.proofs.JudgeLaws.{passes-append}
+use Rattle.base.proofs.JudgeLaws.{passes-append}
 use Rattle.input.proofs.Validity.{valid-iff}
 use Rattle.search.specs.Shared.{Ready}
 use Rattle.prepare.specs.Prepare.{tilingOf, inksOf, cppOf, sceneOf, cpeOf, errorOf, sharedOf}

@@ -18,7 +18,7 @@ use Rattle.eye.specs.Constants.{alphaLum, alphaChroma}
 use Rattle.eye.specs.Eye.{kernelRadius, eye}
 use Rattle.input.specs.Input.{Input, input, pixelCount, inkCount, inputTests, checkedOf, runTests, refineRunTests, refineTests}
 use Rattle.input.proofs.InputLaws.{checked-accepted, checked-radii, input-refused, input-accepted}
-use Rattle.input.proofs.JudgeLaws.{judge-zero}
+use Rattle.base.proofs.JudgeLaws.{judge-zero}
 use Rattle.search.specs.Shared.{shared, Ready}
 use Rattle.walk.specs.declared.Outcome.{Outcome}
 use Rattle.walk.specs.Walk.{walkEnd, Refines}

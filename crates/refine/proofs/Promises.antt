@@ -14,7 +14,7 @@ use Rattle.base.specs.Refusal.{judge, accepted}
 use Rattle.tiling.specs.Tiling.{image}
 use Rattle.input.specs.Input.{Input, inkCount, refineTests}
 use Rattle.input.specs.Valid.{Valid, ValidRefine}
-use Rattle.input.proofs.JudgeLaws.{judge-zero}
+use Rattle.base.proofs.JudgeLaws.{judge-zero}
 use Rattle.input.proofs.Validity.{valid-iff, refine-valid-iff, refine-numbered}
 use Rattle.pins.specs.Pins.{pinnedAt}
 use Rattle.search.specs.Shared.{indexAt, Named}

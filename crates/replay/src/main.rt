@@ -125,7 +125,7 @@ fn number(line: &[u8], k: usize) -> u64 {
 }
 
 fn float(line: &[u8], k: usize) -> f64 {
-    checksum::value(number_from(line, word(line, k), 16))
+    bits::to_float(number_from(line, word(line, k), 16))
 }
 
 // Puts the bytes that begin here into out, as far as it holds them, and says how many.
@@ -213,7 +213,7 @@ fn print_number(n: u64) {
 
 fn print_float(x: f64) {
     space();
-    io::print_hex(STDOUT, checksum::bits(x), 16);
+    io::print_hex(STDOUT, bits::of_float(x), 16);
 }
 
 fn print_sum(sum: u64) {

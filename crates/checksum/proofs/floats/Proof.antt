@@ -15,14 +15,14 @@ abbrev μ-loop : tie.MeasureT-loop
 loop-holds : tie.Need-loop-holds Inv-loop μ-loop
 loop-holds c = search needs
 
-mul-bits : tie.Need-mul-bits Inv-loop μ-loop
-mul-bits c = search needs
+mul-of-float : tie.Need-mul-of-float Inv-loop μ-loop
+mul-of-float c = search needs
 
-shared-slice-read-bits : tie.Need-shared-slice-read-bits Inv-loop μ-loop
-shared-slice-read-bits c = search needs
+shared-slice-read-of-float : tie.Need-shared-slice-read-of-float Inv-loop μ-loop
+shared-slice-read-of-float c = search needs
 
-bits-requires : tie.Need-bits-requires Inv-loop μ-loop
-bits-requires c κs = search needs
+of-float-requires : tie.Need-of-float-requires Inv-loop μ-loop
+of-float-requires c κs = search needs
 
 mix-requires : tie.Need-mix-requires Inv-loop μ-loop
 mix-requires c κs = search needs
@@ -43,4 +43,4 @@ returns : tie.Need-returns Inv-loop μ-loop
 returns c = search needs
 
 pub floats-spec : {M : Type 1} → statement M
-floats-spec = tie.close (tie.spec Inv-loop μ-loop loop-holds mul-bits shared-slice-read-bits bits-requires mix-requires mix-requires-2 add-i loop-less loop-again returns)
+floats-spec = tie.close (tie.spec Inv-loop μ-loop loop-holds mul-of-float shared-slice-read-of-float of-float-requires mix-requires mix-requires-2 add-i loop-less loop-again returns)

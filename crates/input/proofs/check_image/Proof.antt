@@ -8,7 +8,7 @@ use borrow.Author.Needs.{needs}
 use Rattle.base.proofs.Bounds.{image-product}
 use Rattle.base.proofs.RefusalLaws.{Numbered, judge-pass, judge-fail}
 use Rattle.input.specs.Input.{sizeFits, imageTests}
-use Rattle.input.proofs.JudgeLaws.{one-by-one}
+use Rattle.base.proofs.JudgeLaws.{one-by-one}
 use Rattle.input.proofs.Limits.{size-iff}
 use Rattle.input.proofs.check_image.Statement.{statement}
 use Rattle.input.proofs.check_image.Tie as tie

@@ -3,7 +3,7 @@ use native.Mathlib.Omega.{arith}
 use borrow.Author.Needs.{needs}
 use Rattle.base.proofs.RefusalLaws.{Numbered}
 use Rattle.input.specs.Input.{inkTests}
-use Rattle.input.proofs.JudgeLaws.{one-by-one}
+use Rattle.base.proofs.JudgeLaws.{one-by-one}
 use Rattle.input.proofs.check_inks.Statement.{statement}
 use Rattle.input.proofs.check_inks.Tie as tie
 

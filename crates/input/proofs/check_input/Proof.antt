@@ -2,9 +2,9 @@
 use mathlib.Core.Path.{_≡_, sym, _∙_}
 use borrow.Author.Needs.{needs}
 use borrow.Author.Tests.{eq-eqb, ne-eqb}
-use Rattle.base.specs.Refusal.{judge}
+use Rattle.base.specs.Refusal.{judge, firstRefusal}
 use Rattle.eye.specs.Eye.{eyeTests}
-use Rattle.input.specs.Input.{Input, input, firstRefusal, inputTests}
+use Rattle.input.specs.Input.{Input, input, inputTests}
 use Rattle.input.proofs.InputLaws.{first-of-three, checked-refused, checked-eye}
 use Rattle.input.proofs.check_input.Statement.{statement}
 use Rattle.input.proofs.check_input.Tie as tie

@@ -4,7 +4,7 @@ use native.Mathlib.Omega.{arith}
 use borrow.Author.Needs.{needs}
 use Rattle.base.proofs.RefusalLaws.{Numbered}
 use Rattle.input.specs.Input.{runTests, refineRunTests}
-use Rattle.input.proofs.JudgeLaws.{then-one-by-one}
+use Rattle.base.proofs.JudgeLaws.{then-one-by-one}
 use Rattle.input.proofs.check_refine.Statement.{statement}
 use Rattle.input.proofs.check_refine.Tie as tie
 

@@ -1,16 +1,14 @@
--- `judge` of one list of tests and then another is the first refusal of the two, by induction on the first list. These laws speak of
--- any tests and could stand in base. Assumes nothing.
+-- `judge` of one list of tests and then another is the first refusal of the two, by induction on the first list. Assumes nothing.
 use Prim.Native.Nat.{ℕ, _<_}
 use mathlib.Core.Path.{_≡_, refl, sym, ap, _∙_}
 use mathlib.Core.Logic.{_↔_}
 use mathlib.Core.Bool.{Bool, true, false}
 use mathlib.Core.List.{List, [], _∷_, _++_}
 use native.Mathlib.Omega.{arith}
-use borrow.Author.Tests.{ne-eqb}
+use borrow.Author.Tests.{eq-eqb, ne-eqb}
 use Rattle.base.specs.declared.Status.{Status}
-use Rattle.base.specs.Refusal.{Test, judge, accepted, Passes}
+use Rattle.base.specs.Refusal.{Test, judge, accepted, firstRefusal, Passes}
 use Rattle.base.proofs.RefusalLaws.{Numbered, judge-none, judge-pass, judge-fail, accepted-of, passes-of}
-use Rattle.input.specs.Input.{firstRefusal}
 
 positive-ne : (n : ℕ) → 0 < n → n ≡ 0 → ⊥
 positive-ne n h e = omega arith
@@ -36,6 +34,11 @@ one-by-one [] n = sym judge-none
 one-by-one (t ∷ []) n = refl
 one-by-one (t ∷ u ∷ ts) n = ap (firstRefusal (judge (t ∷ []))) (one-by-one (u ∷ ts) (n .1)) ∙ sym (judge-append (t ∷ []) (u ∷ ts) (n .0, tt))
 
+-- a test and then the others
+pub also : (t : Test) (ts : List Test) {x y : Status} → 0 < t .number → x ≡ judge (t ∷ []) → y ≡ judge ts → firstRefusal x y ≡ judge (t ∷ ts)
+unfolding Numbered
+also t ts n p q = rw (p, q) (sym (judge-append (t ∷ []) ts (n, tt)))
+
 pub then-one-by-one : (xs ys : List Test) → Numbered xs → Numbered ys → firstRefusal (judge xs) (oneByOne ys) ≡ judge (xs ++ ys)
 then-one-by-one xs ys n m = ap (firstRefusal (judge xs)) (one-by-one ys m) ∙ sym (judge-append xs ys n)
 
@@ -52,7 +55,7 @@ passes-append (t ∷ ts) ys =
     (λ p. ((p .0, rest .0 (p .1) .0), rest .0 (p .1) .1), λ p. (p .0 .0, rest .1 (p .0 .1, p .1)))
 
 -- the number 0 means that no test fails
-passes-of-zero : (ts : List Test) → Numbered ts → judge ts .number ≡ 0 → Passes ts
+pub passes-of-zero : (ts : List Test) → Numbered ts → judge ts .number ≡ 0 → Passes ts
 unfolding Numbered Passes
 passes-of-zero [] n e = tt
 passes-of-zero (t ∷ ts) n e = go (t .fails) refl (passes-of-zero ts (n .1))
@@ -63,3 +66,12 @@ passes-of-zero (t ∷ ts) n e = go (t .fails) refl (passes-of-zero ts (n .1))
 
 pub judge-zero : (ts : List Test) → Numbered ts → judge ts .number ≡ 0 → judge ts ≡ accepted
 judge-zero ts n e = accepted-of ts (passes-of-zero ts n e)
+
+-- ---- a call that answers early, where its first tests refuse, and goes on where they do not
+
+module _ (xs ys : List Test) (n : Numbered xs) {s : Status} (e : s ≡ judge xs) where
+  pub early : (s .number ≡ 0 → ⊥) → s ≡ judge (xs ++ ys)
+  early f = sym (judge-append xs ys n ∙ rw (sym e, ne-eqb (s .number) 0 f))
+
+  pub goes-on : s .number ≡ 0 → {u : Status} → u ≡ judge ys → u ≡ judge (xs ++ ys)
+  goes-on z q = q ∙ sym (judge-append xs ys n ∙ rw (sym e, eq-eqb (s .number) 0 z))

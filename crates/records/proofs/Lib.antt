@@ -1,0 +1,3 @@
+mod Rects
+pub mod RecordLaws
+pub mod RegionLaws

@@ -1,0 +1,83 @@
+-- `take` meets its contract: a refusal keeps all, and a valid take copies the region and marks the tile. Assumes nothing.
+use native.Mathlib.Omega.{arith}
+use mathlib.Core.Path.{_≡_, ap, _∙_}
+use mathlib.Core.List.{List}
+use lib.ListN.{set}
+use Rattle.base.specs.declared.Status.{Status}
+use Rattle.base.specs.Refusal.{judge}
+use Rattle.job.specs.Copy.{Pixels, pixels}
+use Rattle.job.specs.Record.{pixelsOf}
+use Rattle.job.specs.Take.{taken, takeTests}
+use Rattle.job.specs.Valid.{ValidTake}
+use Rattle.job.proofs.Answers.{Answers, take-answers}
+use Rattle.job.proofs.Validity.{take-passes}
+use Rattle.records.proofs.RecordLaws.{limits-of}
+use borrow.Author.Needs.{needs}
+use Rattle.take.proofs.take.Statement.{statement}
+use Rattle.take.proofs.take.Tie as tie
+
+-- the image and the copies as they came
+abbrev image : tie.Start → Pixels
+image s = pixels (s .args .cpe .now) (s .args .indices .now)
+
+abbrev copies : tie.Start → Pixels
+copies s = pixels (s .args .copy-cpe .now) (s .args .copy-indices .now)
+
+valid : (s : tie.Start) {u : Status} → u ≡ judge (takeTests (s .args .r) (s .args .tile) (image s) (s .args .tile-states .now) (copies s)) → u .number ≡ 0 →
+    ValidTake (s .args .r) (s .args .tile) (image s) (s .args .tile-states .now) (copies s)
+valid s e z = take-passes _ _ _ _ _ .0 (take-answers (s .args .r) (s .args .tile) (image s) (s .args .tile-states .now) (copies s) .passed _ e z)
+
+check-take-requires : tie.Need-check-take-requires
+check-take-requires c κs = search needs
+
+same-length : tie.Need-same-length
+same-length c = search needs
+
+same-length-2 : tie.Need-same-length-2
+same-length-2 c = search needs
+
+same-length-3 : tie.Need-same-length-3
+same-length-3 c = search needs
+
+returns : tie.Need-returns
+returns c = let s = c .before .before .before .before .before .before .before .before .before .before .before in take-answers (s .args .r) (s .args .tile) (image s) (s .args .tile-states .now) (copies s) .kept _ (c .before .before .check-take .ensures) (c .if1 .taken)
+
+copy-region-requires : tie.Need-copy-region-requires
+unfolding pixelsOf
+copy-region-requires c κs =
+    let v = valid (c .before .before .before .before .before .before .before .before .before .before .before .before .before .before) (c .before .before .before .before .before .check-take .ensures) (c .before .before .before .if1 .left) in
+    ((limits-of (c .before .before .before .before .before .before .before .before .before .before .before .before .before .before .args .r) (v .on .valid), v .on .tile-has), ((v .on .cpe-length, v .on .indices-length), (v .room .cpe-length, v .room .indices-length)))
+
+slice-write-tile-states : tie.Need-slice-write-tile-states
+slice-write-tile-states c = let v = valid (c .before .before .before .before .before .before .before .before .before .before .before .before .before .before .before .before .before .before .before) (c .before .before .before .before .before .before .before .before .before .before .check-take .ensures) (c .before .before .before .before .before .before .before .before .if1 .left) in omega (arith, v .on .tile-has, v .on .states-length)
+
+same-length-4 : tie.Need-same-length-4
+same-length-4 c = search needs
+
+same-length-5 : tie.Need-same-length-5
+same-length-5 c = search needs
+
+same-length-6 : tie.Need-same-length-6
+same-length-6 c = search needs
+
+returns-2 : tie.Need-returns-2
+returns-2 c =
+    let s = c .before .before .before .before .before .before .before .before .before .before .before .before .before .before .before .before .before .before .before in
+    ap (λ p. taken (c .before .before .before .before .before .before .before .before .before .before .check-take .result) (s .args .r) (set (s .args .tile-states .now) (s .args .tile) 1) p) (c .before .before .before .before .copy-region .ensures)
+    ∙ take-answers (s .args .r) (s .args .tile) (image s) (s .args .tile-states .now) (copies s) .made _ (c .before .before .before .before .before .before .before .before .before .before .check-take .ensures) (c .before .before .before .before .before .before .before .before .if1 .left)
+
+pub take-spec : {M : Type 1} → statement M
+take-spec =
+    tie.close
+    (tie.spec
+    check-take-requires
+    same-length
+    same-length-2
+    same-length-3
+    returns
+    copy-region-requires
+    slice-write-tile-states
+    same-length-4
+    same-length-5
+    same-length-6
+    returns-2)

@@ -1,0 +1,91 @@
+// Take: a tile's region is copied out and the tile marked out. Rows of `cpe` and of the indices go into
+// parts of the lent copies.
+use base::Status;
+use job::JobRecord;
+use tiling::Tiling;
+ghost use mathlib.Core.Path.{_≡_};
+ghost use Prim.Native.Nat.{_*_, _<_};
+ghost use lib.ListN.{length};
+ghost use Rattle.base.specs.Grid.{area};
+ghost use Rattle.base.specs.Refusal.{judge};
+ghost use Rattle.tiling.specs.Tiling.{Limits, tiles, region, image};
+ghost use Rattle.job.specs.Copy.{pixels, copyOf};
+ghost use Rattle.job.specs.Take.{taken, takeTests, takeOf};
+
+// A tile that waits for a worker, and one that is with a worker.
+const WAITING: u8 = 0;
+
+const OUT: u8 = 1;
+
+// Refusals 12, 16, 13, 3, 11 and 14.
+fn check_take(
+    r: JobRecord,
+    tile: u64,
+    indices: &[u8],
+    cpe: &[f64],
+    tile_states: &[u8],
+    copy_cpe: &[f64],
+    copy_indices: &[u8],
+) -> Status
+    ensures { λ s. ⌜ s ≡ judge (takeTests r tile (pixels (now (cpe .entry)) (now (indices .entry))) (now («tile_states» .entry)) (pixels (now («copy_cpe» .entry)) (now («copy_indices» .entry)))) ⌝ }
+{
+    let record = records::check_record(r);
+    if record.number != 0 {
+        return record;
+    }
+    let turn = records::check_turn(r, tile);
+    if turn.number != 0 {
+        return turn;
+    }
+    let plan = r.plan;
+    let t = plan.tiling;
+    let image = records::check_image(t, indices.len(), cpe.len(), tile_states.len());
+    if image.number != 0 {
+        return image;
+    }
+    let copy = records::check_copy(t, tile as usize, copy_cpe.len(), copy_indices.len());
+    let waiting = input::refuse_if(tile_states[tile as usize] != WAITING, 14, 0);
+    input::first_refusal(copy, waiting)
+}
+
+// The region of a tile into both copies.
+fn copy_region(
+    t: Tiling,
+    tile: usize,
+    indices: &[u8],
+    cpe: &[f64],
+    copy_cpe: &mut [f64],
+    copy_indices: &mut [u8],
+)
+    requires { ⌜ Limits t × (tile < tiles t) ⌝ }
+    requires { ⌜ (length (now cpe) ≡ 3 * (t .height * t .width)) × (length (now indices) ≡ t .height * t .width) ⌝ }
+    requires { ⌜ (length (now «copy_cpe») ≡ 3 * area (region t tile)) × (length (now «copy_indices») ≡ area (region t tile)) ⌝ }
+    ensures { λ _. ⌜ pixels (now («copy_cpe» .exit)) (now («copy_indices» .exit)) ≡ copyOf t tile (pixels (now (cpe .entry)) (now (indices .entry))) ⌝ }
+{
+    let image = walk::image_rect(t);
+    let region = tiling::region_rect(t, tile);
+    copy::copy_cpe(cpe, image, copy_cpe, region, region);
+    copy::copy_indices(indices, image, copy_indices, region, region);
+}
+
+// Copy a tile's region out and mark the tile out.
+pub fn take(
+    r: JobRecord,
+    tile: u64,
+    indices: &[u8],
+    cpe: &[f64],
+    tile_states: &mut [u8],
+    copy_cpe: &mut [f64],
+    copy_indices: &mut [u8],
+) -> Status
+    ensures { λ s. ⌜ taken s r (now («tile_states» .exit)) (pixels (now («copy_cpe» .exit)) (now («copy_indices» .exit))) ≡ takeOf r tile (pixels (now (cpe .entry)) (now (indices .entry))) (now («tile_states» .entry)) (pixels (now («copy_cpe» .entry)) (now («copy_indices» .entry))) ⌝ }
+{
+    let status = check_take(r, tile, indices, cpe, tile_states, copy_cpe, copy_indices);
+    if status.number != 0 {
+        return status;
+    }
+    let plan = r.plan;
+    copy_region(plan.tiling, tile as usize, indices, cpe, copy_cpe, copy_indices);
+    tile_states[tile as usize] = OUT;
+    status
+}
