@@ -34,10 +34,9 @@ one-by-one [] n = sym judge-none
 one-by-one (t ∷ []) n = refl
 one-by-one (t ∷ u ∷ ts) n = ap (firstRefusal (judge (t ∷ []))) (one-by-one (u ∷ ts) (n .1)) ∙ sym (judge-append (t ∷ []) (u ∷ ts) (n .0, tt))
 
--- a test and then the others
-pub also : (t : Test) (ts : List Test) {x y : Status} → 0 < t .number → x ≡ judge (t ∷ []) → y ≡ judge ts → firstRefusal x y ≡ judge (t ∷ ts)
-unfolding Numbered
-also t ts n p q = rw (p, q) (sym (judge-append (t ∷ []) ts (n, tt)))
+-- one list of tests and then another, as code judges them
+pub also : (xs ys : List Test) {s t : Status} → Numbered xs → s ≡ judge xs → t ≡ judge ys → firstRefusal s t ≡ judge (xs ++ ys)
+also xs ys n p q = rw (p, q) (sym (judge-append xs ys n))
 
 pub then-one-by-one : (xs ys : List Test) → Numbered xs → Numbered ys → firstRefusal (judge xs) (oneByOne ys) ≡ judge (xs ++ ys)
 then-one-by-one xs ys n m = ap (firstRefusal (judge xs)) (one-by-one ys m) ∙ sym (judge-append xs ys n)

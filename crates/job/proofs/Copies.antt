@@ -33,7 +33,7 @@ edge-before a m h = omega arith
 edge-beyond : (a m n : ℕ) → 1 ≤ m → min (a + 1) n ≤ min n (a + m)
 edge-beyond a m n h = omega arith
 
-region-covers : (T : Tiling) (t : ℕ) → t < tiles T → Covers T (region T t) (tile T t)
+pub region-covers : (T : Tiling) (t : ℕ) → t < tiles T → Covers T (region T t) (tile T t)
 unfolding region image margin
 region-covers T t h =
     let s = tile-some T t h in

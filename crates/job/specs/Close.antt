@@ -54,9 +54,9 @@ withDeltas T phase deltas n e = upTo (λ t e. let more = e +f getD deltas t nan 
 unfoldable pub released : Tiling → ℕ → List ℕ → List ℕ
 released T phase states = table (tiles T) (λ t. let old = getD states t 0 in cond (inPhase T phase t) 0 old)
 
-unfoldable pub nextRecord : JobRecord → List Float → JobRecord
-nextRecord r deltas =
-    let error = withDeltas (r .plan .tiling) (r .phase) deltas (tiles (r .plan .tiling)) (r .error) in
+-- the record of the next phase, with the error as far as reached
+unfoldable pub nextWith : JobRecord → Float → JobRecord
+nextWith r error =
     let next : JobRecord = record { plan = r .plan; done = r .done; phase = r .phase + 1; accepted = r .accepted; error = error; finished = false } in
     let last : JobRecord = record {
       plan = r .plan;
@@ -67,6 +67,9 @@ nextRecord r deltas =
       finished = eqb (r .accepted) 0 || leb (r .plan .allowed) (r .done + 1);
     } in
     cond (eqb (r .phase) 3) last next
+
+unfoldable pub nextRecord : JobRecord → List Float → JobRecord
+nextRecord r deltas = nextWith r (withDeltas (r .plan .tiling) (r .phase) deltas (tiles (r .plan .tiling)) (r .error))
 
 unfoldable pub closeOf : JobRecord → List ℕ → List ℕ → List Float → Closed
 closeOf r counts states deltas =

@@ -1,24 +1,21 @@
 -- What holds once a record's tests have passed: sizes within the limits. Assumes nothing.
-use Prim.Native.Nat.{ℕ, _-_, _*_, _≤_, _<_}
+use Prim.Native.Nat.{ℕ, _*_, _≤_, _<_}
 use native.Mathlib.Omega.{arith}
 use mathlib.Core.Path.{_≡_, sym, ap, _∙_}
 use mathlib.Core.Bool.{not}
 use mathlib.Core.List.{[], _∷_}
 use lib.Dec.{eqb}
 use Rattle.base.specs.declared.Status.{Status}
-use Rattle.base.specs.Grid.{area, width, height}
 use Rattle.base.specs.Refusal.{test, judge, Passes}
 use Rattle.base.proofs.Bounds.{image-product}
 use Rattle.base.proofs.RefusalLaws.{Numbered}
 use Rattle.base.proofs.JudgeLaws.{passes-of-zero}
-use Rattle.tiling.specs.declared.Tiling.{Tiling}
-use Rattle.tiling.specs.Tiling.{Limits, tiles, region}
+use Rattle.tiling.specs.Tiling.{Limits, tiles}
 use Rattle.input.specs.Input.{lengthTest}
 use Rattle.job.specs.declared.JobRecord.{JobRecord}
 use Rattle.job.specs.Record.{pixelsOf, recordTests, isDue}
 use Rattle.job.specs.Valid.{ValidRecord}
 use Rattle.job.proofs.Validity.{record-of, due-of, equal-of}
-use Rattle.records.proofs.Rects.{region-sides}
 
 pub record-numbered : (r : JobRecord) → Numbered (recordTests r)
 unfolding recordTests Numbered
@@ -36,13 +33,6 @@ limits-of r v = record {
 pub few-pixels : (r : JobRecord) → ValidRecord r → pixelsOf r ≤ 16777216
 unfolding pixelsOf
 few-pixels r v = image-product (r .plan .tiling .height) (r .plan .tiling .width) (v .height-most) (v .width-most)
-
-pub few-in-region : (T : Tiling) → Limits T → (t : ℕ) → t < tiles T → area (region T t) ≤ 16777216
-unfolding area width height
-few-in-region T h t q =
-    let s = region-sides T h t q in
-    let W = region T t in
-    image-product (W .y1 - W .y0) (W .x1 - W .x0) (omega (arith, s .3)) (omega (arith, s .1))
 
 -- ---- as code finds it, which has judged the tests and looks at the number
 

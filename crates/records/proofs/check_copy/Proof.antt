@@ -2,7 +2,7 @@
 use native.Mathlib.Omega.{arith}
 use Rattle.base.proofs.RefusalLaws.{Numbered}
 use Rattle.base.proofs.JudgeLaws.{one-by-one}
-use Rattle.records.proofs.RecordLaws.{few-in-region}
+use Rattle.tiling.proofs.Sizes.{region-area-limit}
 use borrow.Author.Needs.{needs}
 use Rattle.records.proofs.check_copy.Statement.{statement}
 use Rattle.records.proofs.check_copy.Tie as tie
@@ -11,7 +11,7 @@ region-size-requires : tie.Need-region-size-requires
 region-size-requires c κs = search needs
 
 mul-check-length : tie.Need-mul-check-length
-mul-check-length c = let a = c .before .args in omega (arith, c .region-size .ensures, few-in-region (a .t) (c .before .pre .0) (a .tile) (c .before .pre .1))
+mul-check-length c = let a = c .before .args in omega (arith, c .region-size .ensures, region-area-limit (a .t) (c .before .pre .0) (a .tile))
 
 check-length-requires : tie.Need-check-length-requires
 check-length-requires c κs = search needs

@@ -104,19 +104,19 @@ unfolding recordTests pixelsOf Numbered
 returns-2 c =
     goes-on (_ ∷ []) _ (omega arith) (c .before .before .before .before .before .before .before .before .before .before .before .before .before .before .before .before .before .before .before .before .before .before .before .before .before .before .before .limit .ensures ∙ unless (c .before .before .before .before .before .before .before .before .before .before .before .before .before .before .before .before .before .before .before .before .before .before .before .before .before .before .before .before .is-size .ensures)) (c .before .before .before .before .before .before .before .before .before .before .before .before .before .before .before .before .before .before .before .before .before .before .before .before .before .if1 .left)
     (c .first-refusal7 .ensures
-    ∙ also _ _ (omega arith) (c .before .before .before .before .before .before .before .before .before .before .before .before .before .before .before .before .before .before .before .before .before .before .limit2 .ensures ∙ unless (c .before .before .before .before .before .before .before .before .before .before .before .before .before .before .before .before .before .before .before .before .before .before .before .is-within .ensures))
+    ∙ also (_ ∷ []) _ (omega arith) (c .before .before .before .before .before .before .before .before .before .before .before .before .before .before .before .before .before .before .before .before .before .before .limit2 .ensures ∙ unless (c .before .before .before .before .before .before .before .before .before .before .before .before .before .before .before .before .before .before .before .before .before .before .before .is-within .ensures))
     (c .before .first-refusal6 .ensures
-    ∙ also _ _ (omega arith) (c .before .before .before .before .before .before .before .before .before .before .before .before .before .before .before .before .before .before .before .before .limit3 .ensures ∙ unless (c .before .before .before .before .before .before .before .before .before .before .before .before .before .before .before .before .before .before .before .before .before .is-radius .ensures))
+    ∙ also (_ ∷ []) _ (omega arith) (c .before .before .before .before .before .before .before .before .before .before .before .before .before .before .before .before .before .before .before .before .limit3 .ensures ∙ unless (c .before .before .before .before .before .before .before .before .before .before .before .before .before .before .before .before .before .before .before .before .before .is-radius .ensures))
     (c .before .before .first-refusal5 .ensures
-    ∙ also _ _ (omega arith) (c .before .before .before .before .before .before .before .before .before .before .before .before .before .before .before .before .before .before .limit4 .ensures ∙ unless (c .before .before .before .before .before .before .before .before .before .before .before .before .before .before .before .before .before .before .before .is-radius2 .ensures))
+    ∙ also (_ ∷ []) _ (omega arith) (c .before .before .before .before .before .before .before .before .before .before .before .before .before .before .before .before .before .before .limit4 .ensures ∙ unless (c .before .before .before .before .before .before .before .before .before .before .before .before .before .before .before .before .before .before .before .is-radius2 .ensures))
     (c .before .before .before .first-refusal4 .ensures
-    ∙ also _ _ (omega arith) (c .before .before .before .before .before .before .before .before .before .before .before .before .before .before .before .before .limit5 .ensures)
+    ∙ also (_ ∷ []) _ (omega arith) (c .before .before .before .before .before .before .before .before .before .before .before .before .before .before .before .before .limit5 .ensures)
     (c .before .before .before .before .first-refusal3 .ensures
-    ∙ also _ _ (omega arith) (c .before .before .before .before .before .before .before .before .before .before .before .before .before .limit6 .ensures)
+    ∙ also (_ ∷ []) _ (omega arith) (c .before .before .before .before .before .before .before .before .before .before .before .before .before .limit6 .ensures)
     (c .before .before .before .before .before .first-refusal2 .ensures
-    ∙ also _ _ (omega arith) (c .before .before .before .before .before .before .before .before .before .before .before .limit7 .ensures)
+    ∙ also (_ ∷ []) _ (omega arith) (c .before .before .before .before .before .before .before .before .before .before .before .limit7 .ensures)
     (c .before .before .before .before .before .before .first-refusal .ensures
-    ∙ also _ _ (omega arith) (c .before .before .before .before .before .before .before .before .before .limit8 .ensures ∙ where-test (c .before .before .before .before .before .before .before .before .before .before .is-spent .ensures)) (c .before .before .before .before .before .before .before .limit9 .ensures))))))))
+    ∙ also (_ ∷ []) _ (omega arith) (c .before .before .before .before .before .before .before .before .before .limit8 .ensures ∙ where-test (c .before .before .before .before .before .before .before .before .before .before .is-spent .ensures)) (c .before .before .before .before .before .before .before .limit9 .ensures))))))))
 
 pub check-record-spec : {M : Type 1} → statement M
 check-record-spec =

@@ -1,0 +1,113 @@
+-- `put_back` meets its contract: a refusal keeps all, and a valid put back writes the copy, adds the count and keeps the delta. Assumes nothing.
+use native.Mathlib.Omega.{arith}
+use mathlib.Core.Path.{_≡_, ap, _∙_}
+use lib.ListN.{set}
+use Rattle.base.specs.declared.Status.{Status}
+use Rattle.base.specs.Refusal.{judge}
+use Rattle.tile.specs.Tile.{State, state}
+use Rattle.tiling.proofs.Sizes.{sizes}
+use Rattle.job.specs.Copy.{Pixels, pixels}
+use Rattle.job.specs.Record.{pixelsOf}
+use Rattle.job.specs.PutBack.{putBack, putBackTests, withProgress}
+use Rattle.job.specs.Valid.{ValidPutBack}
+use Rattle.job.proofs.Answers.{putBack-answers}
+use Rattle.job.proofs.Validity.{putBack-passes}
+use Rattle.records.proofs.RecordLaws.{limits-of, few-pixels}
+use borrow.Author.Needs.{needs}
+use Rattle.putback.proofs.put_back.Statement.{statement}
+use Rattle.putback.proofs.put_back.Tie as tie
+
+-- the image as it came, and what is brought
+abbrev image : tie.Start → Pixels
+image s = pixels (s .args .cpe .now) (s .args .indices .now)
+
+abbrev brought : tie.Start → State
+brought s = state (s .args .copy-cpe .now) (s .args .copy-indices .now) (record { accepted = s .args .accepted; delta = s .args .delta })
+
+valid : (s : tie.Start) {u : Status} → u ≡ judge (putBackTests (s .args .r) (s .args .tile) (image s) (s .args .tile-states .now) (s .args .deltas .now) (brought s)) → u .number ≡ 0 →
+    ValidPutBack (s .args .r) (s .args .tile) (image s) (s .args .tile-states .now) (s .args .deltas .now) (brought s)
+valid s e z =
+    putBack-passes _ _ _ _ _ _ .0
+    (putBack-answers (s .args .r) (s .args .tile) (image s) (s .args .tile-states .now) (s .args .deltas .now) (brought s) .passed _ e z)
+
+check-put-back-requires : tie.Need-check-put-back-requires
+check-put-back-requires c κs = search needs
+
+same-length : tie.Need-same-length
+same-length c = search needs
+
+same-length-2 : tie.Need-same-length-2
+same-length-2 c = search needs
+
+same-length-3 : tie.Need-same-length-3
+same-length-3 c = search needs
+
+same-length-4 : tie.Need-same-length-4
+same-length-4 c = search needs
+
+returns : tie.Need-returns
+returns c =
+    let s = c .before .before .before .before .before .before .before .before .before .before .before .before .before in
+    putBack-answers (s .args .r) (s .args .tile) (image s) (s .args .tile-states .now) (s .args .deltas .now) (brought s) .kept _ (c .before .before .check-put-back .ensures) (c .if1 .taken)
+
+write-region-requires : tie.Need-write-region-requires
+unfolding pixelsOf
+write-region-requires c κs =
+    let v = valid (c .before .before .before .before .before .before .before .before .before .before .before .before .before .before .before .before) (c .before .before .before .before .before .check-put-back .ensures) (c .before .before .before .if1 .left) in
+    ((limits-of (c .before .before .before .before .before .before .before .before .before .before .before .before .before .before .before .before .args .r) (v .on .valid), v .on .tile-has), ((v .on .cpe-length, v .on .indices-length), (v .room .cpe-length, v .room .indices-length)))
+
+slice-write-tile-states : tie.Need-slice-write-tile-states
+slice-write-tile-states c = let v = valid (c .before .before .before .before .before .before .before .before .before .before .before .before .before .before .before .before .before .before .before .before .before) (c .before .before .before .before .before .before .before .before .before .before .check-put-back .ensures) (c .before .before .before .before .before .before .before .before .if1 .left) in omega (arith, v .on .tile-has, v .on .states-length)
+
+mul-deltas : tie.Need-mul-deltas
+mul-deltas c =
+    let v = valid (c .before .before .before .before .before .before .before .before .before .before .before .before .before .before .before .before .before .before .before .before .before) (c .before .before .before .before .before .before .before .before .before .before .check-put-back .ensures) (c .before .before .before .before .before .before .before .before .if1 .left) in
+    omega (arith, v .on .tile-has, sizes (c .before .before .before .before .before .before .before .before .before .before .before .before .before .before .before .before .before .before .before .before .before .args .r .plan .tiling) (limits-of (c .before .before .before .before .before .before .before .before .before .before .before .before .before .before .before .before .before .before .before .before .before .args .r) (v .on .valid)) .tiles-limit)
+
+slice-write-deltas : tie.Need-slice-write-deltas
+slice-write-deltas c = let v = valid (c .before .before .before .before .before .before .before .before .before .before .before .before .before .before .before .before .before .before .before .before .before) (c .before .before .before .before .before .before .before .before .before .before .check-put-back .ensures) (c .before .before .before .before .before .before .before .before .if1 .left) in omega (arith, v .on .tile-has, v .deltas-length)
+
+add-t32 : tie.Need-add-t32
+add-t32 c = let v = valid (c .before .before .before .before .before .before .before .before .before .before .before .before .before .before .before .before .before .before .before .before .before .before) (c .before .before .before .before .before .before .before .before .before .before .before .check-put-back .ensures) (c .before .before .before .before .before .before .before .before .before .if1 .left) in omega (arith, v .total-most, few-pixels (c .before .before .before .before .before .before .before .before .before .before .before .before .before .before .before .before .before .before .before .before .before .before .args .r) (v .on .valid))
+
+same-length-5 : tie.Need-same-length-5
+same-length-5 c = search needs
+
+same-length-6 : tie.Need-same-length-6
+same-length-6 c = search needs
+
+same-length-7 : tie.Need-same-length-7
+same-length-7 c = search needs
+
+same-length-8 : tie.Need-same-length-8
+same-length-8 c = search needs
+
+returns-2 : tie.Need-returns-2
+unfolding withProgress
+returns-2 c =
+    let s = c .before .before .before .before .before .before .before .before .before .before .before .before .before .before .before .before .before .before .before .before .before .before in
+    let a = s .args in
+    ap (λ p. putBack (c .before .before .before .before .before .before .before .before .before .before .before .check-put-back .result) (withProgress (a .r) (record { accepted = a .accepted; delta = a .delta })) p (set (a .tile-states .now) (a .tile) 2) (set (a .deltas .now) (a .tile) (a .delta)))
+    (c .before .before .before .before .before .write-region .ensures)
+    ∙ putBack-answers (a .r) (a .tile) (image s) (a .tile-states .now) (a .deltas .now) (brought s) .made _ (c .before .before .before .before .before .before .before .before .before .before .before .check-put-back .ensures) (c .before .before .before .before .before .before .before .before .before .if1 .left)
+
+pub put-back-spec : {M : Type 1} → statement M
+put-back-spec =
+    tie.close
+    (tie.spec
+    check-put-back-requires
+    same-length
+    same-length-2
+    same-length-3
+    same-length-4
+    returns
+    write-region-requires
+    slice-write-tile-states
+    mul-deltas
+    slice-write-deltas
+    add-t32
+    same-length-5
+    same-length-6
+    same-length-7
+    same-length-8
+    returns-2)

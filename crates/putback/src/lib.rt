@@ -1,0 +1,158 @@
+// Put back: a tile's copy is written over its region, its count added and its delta kept.
+use base::Status;
+use job::JobRecord;
+use records::Answer;
+use tiling::Tiling;
+ghost use mathlib.Core.Path.{_≡_};
+ghost use mathlib.Core.List.{[], _∷_};
+ghost use mathlib.Core.Bool.{not, _&&_, _||_};
+ghost use Prim.Native.Nat.{_+_, _*_, _≤_, _<_};
+ghost use lib.Dec.{ltb};
+ghost use lib.ListN.{length};
+ghost use Rattle.base.specs.Grid.{area};
+ghost use Rattle.base.specs.Refusal.{test, judge};
+ghost use Rattle.tiling.specs.Tiling.{Limits, tiles, region};
+ghost use Rattle.tile.specs.Tile.{state};
+ghost use Rattle.job.specs.Record.{pixelsOf, isDue};
+ghost use Rattle.job.specs.Copy.{pixels, writtenBack};
+ghost use Rattle.job.specs.PutBack.{countTest, putBack, putBackTests, putBackOf};
+ghost use Rattle.job.specs.Valid.{ValidRecord};
+
+// A tile that is with a worker, and one that is back.
+const OUT: u8 = 1;
+
+const BACK: u8 = 2;
+
+// Whether a tile that the image has brings more moves than its pixels, or lifts the moves of this pass
+// above the image's.
+fn is_over(r: JobRecord, tile: u64, accepted: u64) -> bool
+    requires { ⌜ ValidRecord r ⌝ }
+    ensures { λ b. ⌜ b ≡ countTest r tile accepted .fails ⌝ }
+{
+    let plan = r.plan;
+    let t = plan.tiling;
+    if records::has_tile(t, tile) {
+        let n = t.height * t.width;
+        return accepted > records::tile_size(t, tile as usize) as u64 || accepted > n as u64 - r.accepted;
+    }
+    false
+}
+
+// Refusals 12, 16 and 13.
+fn check_turn(r: JobRecord, tile: u64, accepted: u64) -> Status
+    requires { ⌜ ValidRecord r ⌝ }
+    ensures { λ s. ⌜ s ≡ judge (countTest r tile accepted ∷ test (r .finished) 16 0 ∷ test (not (isDue r tile)) 13 0 ∷ []) ⌝ }
+{
+    input::first_refusal(
+        input::refuse_if(is_over(r, tile, accepted), 12, 0),
+        records::check_turn(r, tile),
+    )
+}
+
+// Refusals 12, 16, 13, 3, 11, 14 and 6.
+fn check_put_back(
+    r: JobRecord,
+    tile: u64,
+    indices: &[u8],
+    cpe: &[f64],
+    tile_states: &[u8],
+    deltas: &[f64],
+    copy_cpe: &[f64],
+    copy_indices: &[u8],
+    accepted: u64,
+    delta: f64,
+) -> Status
+    ensures { λ s. ⌜ s ≡ judge (putBackTests r tile (pixels (now (cpe .entry)) (now (indices .entry))) (now («tile_states» .entry)) (now (deltas .entry)) (state (now («copy_cpe» .entry)) (now («copy_indices» .entry)) (record { accepted = accepted; delta = delta }))) ⌝ }
+{
+    let record = records::check_record(r);
+    if record.number != 0 {
+        return record;
+    }
+    let turn = check_turn(r, tile, accepted);
+    if turn.number != 0 {
+        return turn;
+    }
+    let plan = r.plan;
+    let t = plan.tiling;
+    let image = records::check_image(t, indices.len(), cpe.len(), tile_states.len());
+    if image.number != 0 {
+        return image;
+    }
+    let room = input::check_length(5, deltas.len(), tiling::tile_count(t));
+    let copy = records::check_copy(t, tile as usize, copy_cpe.len(), copy_indices.len());
+    let out = input::refuse_if(tile_states[tile as usize] != OUT, 14, 0);
+    let named = records::check_named(r, copy_indices);
+    input::first_refusal(
+        room,
+        input::first_refusal(copy, input::first_refusal(out, named)),
+    )
+}
+
+// The copies over the region of a tile.
+fn write_region(
+    t: Tiling,
+    tile: usize,
+    indices: &mut [u8],
+    cpe: &mut [f64],
+    copy_cpe: &[f64],
+    copy_indices: &[u8],
+)
+    requires { ⌜ Limits t × (tile < tiles t) ⌝ }
+    requires { ⌜ (length (now cpe) ≡ 3 * (t .height * t .width)) × (length (now indices) ≡ t .height * t .width) ⌝ }
+    requires { ⌜ (length (now «copy_cpe») ≡ 3 * area (region t tile)) × (length (now «copy_indices») ≡ area (region t tile)) ⌝ }
+    ensures { λ _. ⌜ pixels (now (cpe .exit)) (now (indices .exit)) ≡ writtenBack t tile (pixels (now (cpe .entry)) (now (indices .entry))) (pixels (now («copy_cpe» .entry)) (now («copy_indices» .entry))) ⌝ }
+{
+    let image = walk::image_rect(t);
+    let region = tiling::region_rect(t, tile);
+    copy::copy_cpe(copy_cpe, region, cpe, image, region);
+    copy::copy_indices(copy_indices, region, indices, image, region);
+}
+
+// Write a copy back over its region, with the count and delta that work answered.
+pub fn put_back(
+    r: JobRecord,
+    tile: u64,
+    indices: &mut [u8],
+    cpe: &mut [f64],
+    tile_states: &mut [u8],
+    deltas: &mut [f64],
+    copy_cpe: &[f64],
+    copy_indices: &[u8],
+    accepted: u64,
+    delta: f64,
+) -> Answer
+    ensures { λ a. ⌜ putBack (a .status) (a .record) (pixels (now (cpe .exit)) (now (indices .exit))) (now («tile_states» .exit)) (now (deltas .exit)) ≡ putBackOf r tile (pixels (now (cpe .entry)) (now (indices .entry))) (now («tile_states» .entry)) (now (deltas .entry)) (state (now («copy_cpe» .entry)) (now («copy_indices» .entry)) (record { accepted = accepted; delta = delta })) ⌝ }
+{
+    let status = check_put_back(
+        r,
+        tile,
+        indices,
+        cpe,
+        tile_states,
+        deltas,
+        copy_cpe,
+        copy_indices,
+        accepted,
+        delta,
+    );
+    if status.number != 0 {
+        return Answer {
+            status,
+            record: r,
+        };
+    }
+    let plan = r.plan;
+    let i = tile as usize;
+    write_region(plan.tiling, i, indices, cpe, copy_cpe, copy_indices);
+    tile_states[i] = BACK;
+    deltas[i] = delta;
+    let record = JobRecord {
+        plan,
+        done: r.done,
+        phase: r.phase,
+        accepted: r.accepted + accepted,
+        error: r.error,
+        finished: r.finished,
+    };
+    Answer { status, record }
+}
