@@ -5,7 +5,7 @@ use mathlib.Core.List.{List, [], _∷_, _++_, append-nil, append-assoc}
 use native.Mathlib.Numerals.{add-one}
 use native.Mathlib.Omega.{arith}
 use lib.ListN.{length, getD, take, drop, set, length-append, length-take, length-drop, length-set, drop-of-length-le}
-use lib.Seq.{length-take-le, set-at, drop-cons, append-snoc, ext-getD}
+use lib.Seq.{length-take-le, set-at, drop-cons, append-snoc, ext-getD, getD-append-add, getD-drop}
 use Rattle.base.specs.Loop.{table, overwrite}
 
 pub length-table : {A : Type 0} (n : ℕ) (f : ℕ → A) → length (table n f) ≡ n
@@ -59,6 +59,12 @@ fill-turn {A} d i f s g v h e w = ap (λ (l : List A). set l i v) e ∙ fill-mor
 
 pub fill-length : {A : Type 0} (n : ℕ) (f : ℕ → A) (s : List A) → n ≤ length s → length (filled n f s) ≡ length s
 fill-length n f s h = length-append (table n f) (drop n s) ∙ (omega (arith, length-table n f, length-drop n s))
+
+-- what is not filled yet is as it was
+pub fill-rest : {A : Type 0} (d : A) (n : ℕ) (f : ℕ → A) (s : List A) → getD (filled n f s) n d ≡ getD s n d
+fill-rest d n f s =
+    ap (λ (k : ℕ). getD (filled n f s) k d) (omega (arith, length-table n f))
+    ∙ getD-append-add (table n f) (drop n s) 0 d ∙ getD-drop n s 0 d ∙ ap (λ (k : ℕ). getD s k d) (omega arith)
 
 -- the loop's end: the slice is the table
 pub fill-done : {A : Type 0} (i n : ℕ) (f : ℕ → A) (s g : List A) → i ≤ length s → length s ≤ i → length s ≡ n → g ≡ filled i f s → g ≡ table n f

@@ -6,11 +6,13 @@ use records::Answer;
 use tiling::Tiling;
 ghost use mathlib.Core.Path.{_≡_};
 ghost use mathlib.Core.Bool.{not, cond, _&&_};
+ghost use mathlib.Core.List.{[], _∷_};
 ghost use Prim.Native.Nat.{_≤_, _<_};
 ghost use lib.Dec.{ltb, eqb};
 ghost use lib.ListN.{length, set};
 ghost use Rattle.base.specs.F64.{_+f_};
-ghost use Rattle.base.specs.Refusal.{judge};
+ghost use Rattle.base.specs.Refusal.{test, judge};
+ghost use Rattle.input.specs.Input.{lengthTest};
 ghost use Rattle.tiling.specs.Tiling.{Limits, tiles, inPhase};
 ghost use Rattle.job.specs.Close.{firstOf, isMissing, closeTests, withDeltas, released, nextWith, closed, closeOf};
 
@@ -48,6 +50,28 @@ fn first_missing(r: JobRecord, tile_states: &[u8]) -> usize
     i
 }
 
+// Refusals 16 and 11.
+fn check_buffers(
+    r: JobRecord,
+    accepted_per_pass_len: usize,
+    tile_states_len: usize,
+    deltas_len: usize,
+) -> Status
+    requires { ⌜ Limits (r .plan .tiling) ⌝ }
+    ensures { λ s. ⌜ s ≡ judge (test (r .finished) 16 0 ∷ lengthTest 3 «accepted_per_pass_len» (r .plan .allowed) ∷ lengthTest 4 «tile_states_len» (tiles (r .plan .tiling)) ∷ lengthTest 5 «deltas_len» (tiles (r .plan .tiling)) ∷ []) ⌝ }
+{
+    let plan = r.plan;
+    let tiles = tiling::tile_count(plan.tiling);
+    let finished = input::refuse_if(r.finished, 16, 0);
+    let counts = input::check_length(3, accepted_per_pass_len, plan.allowed as usize);
+    let states = input::check_length(4, tile_states_len, tiles);
+    let deltas = input::check_length(5, deltas_len, tiles);
+    input::first_refusal(
+        finished,
+        input::first_refusal(counts, input::first_refusal(states, deltas)),
+    )
+}
+
 // Refusals 12, 16, 11 and 15.
 fn check_close(
     r: JobRecord,
@@ -61,21 +85,12 @@ fn check_close(
     if record.number != 0 {
         return record;
     }
-    let plan = r.plan;
-    let tiles = tiling::tile_count(plan.tiling);
-    let finished = input::refuse_if(r.finished, 16, 0);
-    let counts = input::check_length(3, accepted_per_pass.len(), plan.allowed as usize);
-    let states = input::check_length(4, tile_states.len(), tiles);
-    let sums = input::check_length(5, deltas.len(), tiles);
-    let lengths = input::first_refusal(
-        finished,
-        input::first_refusal(counts, input::first_refusal(states, sums)),
-    );
-    if lengths.number != 0 {
-        return lengths;
+    let buffers = check_buffers(r, accepted_per_pass.len(), tile_states.len(), deltas.len());
+    if buffers.number != 0 {
+        return buffers;
     }
     let missing = first_missing(r, tile_states);
-    input::refuse_if(missing < tiles, 15, missing as u64)
+    input::refuse_if(missing < tile_states.len(), 15, missing as u64)
 }
 
 // The error, with a tile's delta where it is one of the phase.

@@ -27,7 +27,7 @@ use Rattle.job.specs.Open.{Opening, openTestsOf, firstRecord, openOf}
 use Rattle.job.specs.Take.{takeTests, takeOf}
 use Rattle.job.specs.Work.{Worked, copyTest, workTests, workOf}
 use Rattle.job.specs.PutBack.{countTest, putBackTests, withProgress, putBackOf}
-use Rattle.job.specs.Close.{firstOf, isMissing, closeTests, withDeltas, released, nextRecord, closeOf}
+use Rattle.job.specs.Close.{firstOf, isMissing, closeTests, withDeltas, released, nextRecord, nextWith, closeOf}
 use Rattle.job.specs.Runs.{take, putBack, close, Job, start, answer, changed, after}
 
 -- an image of 1 x 0 pixels and one ink, seen at 127 ppi from 40 cm
@@ -61,7 +61,7 @@ closed J = after J (close (J .counts) (J .states) (J .deltas))
 
 no-rows : let J = closed (closed (closed (closed (start (flat 2 (7 ∷ 7 ∷ [])))))) in
     (J .rec .done ≡ 1) × (J .rec .phase ≡ 0) × (J .rec .finished ≡ true) × (J .counts ≡ 0 ∷ 7 ∷ []) × (J .rec .error ≡ f0)
-unfolding flat closed start after changed answer closeOf closeTests recordTests radiusFits pixelsOf firstOf isMissing nextRecord withDeltas released openOf openTestsOf firstRecord isAccepted judge openTests openRunTests runTests inputTests imageTests inkTests eyeTests firstUnnamed pixelCount inkCount tilingOf kernelRadius blurRadius ceil sigmaPx toDegrees isFinitePositive tiles rows columns side margin errorOf initialError channelError upTo table add mul div lt ofBits ofInt
+unfolding flat closed start after changed answer closeOf closeTests recordTests radiusFits pixelsOf firstOf isMissing nextRecord nextWith withDeltas released openOf openTestsOf firstRecord isAccepted judge openTests openRunTests runTests inputTests imageTests inkTests eyeTests firstUnnamed pixelCount inkCount tilingOf kernelRadius blurRadius ceil sigmaPx toDegrees isFinitePositive tiles rows columns side margin errorOf initialError channelError upTo table add mul div lt ofBits ofInt
 no-rows = (refl, refl, refl, refl, refl)
 
 -- ---- a job on two pixels: hand kernel H (1.0 at the centre, else 0), ink values (0, 0, 0) and (1, 0, 0), indices 1 0, targets 0 1
@@ -102,5 +102,5 @@ backOne = after tookOne (putBack 0 (tookOne .image) (tookOne .states) (tookOne .
 -- 'H, indices 1 0, targets 0 1: swap, −2', shared and closed
 one-swap : let J = closed (closed (closed (closed backOne))) in
     (workedOne .made .progress ≡ record { accepted = 1; delta = neg f2 }) × (J .image .indices ≡ 0 ∷ 1 ∷ []) × (J .counts ≡ 1 ∷ 7 ∷ 7 ∷ []) × (J .rec .done ≡ 1) × (J .rec .error ≡ f0) × (J .rec .finished ≡ false)
-unfolding two tookOne workedOne backOne handKernels twoInks closed after changed answer takeOf takeTests copyOf isDue isWaiting workOf workTests copyTest jobShared refinedCopy putBackOf putBackTests countTest withProgress writtenBack isOut isBack closeOf closeTests recordTests radiusFits pixelsOf firstOf isMissing nextRecord withDeltas released isAccepted judge firstUnnamed image tile region tileX tileY inPhase tiles rows columns side margin crop paste cell put place columnAt rowAt valueAt inside area width height refineTile refineRow visitOf applied evaluateOf swaps trySwap partnerOf toggles tryToggle centres centreOf gaps besideOf toggleCost swapCost kernelAt pinnedAt movedIndices movedCpe addKernels sweepOf sweepRow sweepPixel addAt grow fromTo upTo table add sub mul div neg lt ofBits
+unfolding two tookOne workedOne backOne handKernels twoInks closed after changed answer takeOf takeTests copyOf isDue isWaiting workOf workTests copyTest jobShared refinedCopy putBackOf putBackTests countTest withProgress writtenBack isOut isBack closeOf closeTests recordTests radiusFits pixelsOf firstOf isMissing nextRecord nextWith withDeltas released isAccepted judge firstUnnamed image tile region tileX tileY inPhase tiles rows columns side margin crop paste cell put place columnAt rowAt valueAt inside area width height refineTile refineRow visitOf applied evaluateOf swaps trySwap partnerOf toggles tryToggle centres centreOf gaps besideOf toggleCost swapCost kernelAt pinnedAt movedIndices movedCpe addKernels sweepOf sweepRow sweepPixel addAt grow fromTo upTo table add sub mul div neg lt ofBits
 one-swap = (refl, refl, refl, refl, refl, refl)

@@ -28,7 +28,7 @@ use Rattle.job.specs.Copy.{Pixels, pixels, copyOf, refinedCopy, writtenB
 use Rattle.job.specs.Take.{takeOf}
 use Rattle.job.specs.Work.{Worked, workOf}
 use Rattle.job.specs.PutBack.{withProgress, putBackOf}
-use Rattle.job.specs.Close.{withDeltas, released, nextRecord, closeOf}
+use Rattle.job.specs.Close.{withDeltas, released, nextRecord, nextWith, closeOf}
 use Rattle.job.specs.Valid.{ValidTile, ValidTake, ValidPutBack, ValidClose}
 use Rattle.job.specs.Runs.{Job, take as takeCall, putBack, close, changed, refused}
 use Rattle.job.specs.Claim.{Same}
@@ -382,7 +382,7 @@ module _ (plan : Plan) (pinned : List ℕ) (inks cpp : List Float) where
           rw add-one (take-suc-set (J .counts) (J .rec .done) (J .rec .accepted) room ∙ ap (λ (l : List ℕ). l ++ (J .rec .accepted ∷ [])) (I .recorded .counts))
 
       pub close-same : Same (phaseClosed J) (walkPhase S (plan .allowed) w)
-      unfolding phaseClosed nextRecord walkPhase stored
+      unfolding phaseClosed nextRecord nextWith walkPhase stored
       close-same = go (eqb (w .phase) 3) refl
         where
           indices-same : J .image .indices ≡ end .indices
@@ -422,11 +422,11 @@ module _ (plan : Plan) (pinned : List ℕ) (inks cpp : List Float) where
               }
 
       next-plan : nextRecord (J .rec) (J .deltas) .plan ≡ J .rec .plan
-      unfolding nextRecord
+      unfolding nextRecord nextWith
       next-plan = either (λ (r : JobRecord). r .plan) (eqb (J .rec .phase) 3) refl refl
 
       next-phase : nextRecord (J .rec) (J .deltas) .phase ≡ walkPhase S (plan .allowed) w .phase
-      unfolding nextRecord walkPhase
+      unfolding nextRecord nextWith walkPhase
       next-phase = rw going (go (eqb (w .phase) 3) refl)
         where
           go : (b : Bool) → eqb (w .phase) 3 ≡ b → nextRecord (J .rec) (J .deltas) .phase ≡ phaseEnd (plan .allowed) w end .phase

@@ -140,7 +140,7 @@ first-none f (suc n) h i b = go (eqb (firstOf f n) n) refl (f n) refl h (first-n
     go true q false z h ih = at z (eqb-true (firstOf f n) n q) ih (ℕ-discrete i n)
     go false q e z h ih = absurd (omega (arith, first-le f n))
 
-none-first : (f : ℕ → Bool) (n : ℕ) → ((i : ℕ) → i < n → f i ≡ false) → firstOf f n ≡ n
+pub none-first : (f : ℕ → Bool) (n : ℕ) → ((i : ℕ) → i < n → f i ≡ false) → firstOf f n ≡ n
 unfolding firstOf
 none-first f n g = upTo-ind (λ i a. a ≡ i) _ n (λ i h a e. rw (e, eq-eqb i i refl, g i h)) 0 refl
 
