@@ -4,7 +4,7 @@ use mathlib.Core.Path.{_≡_, refl, sym, ap, _∙_}
 use mathlib.Core.List.{List, [], _∷_, _++_, append-nil, append-assoc}
 use native.Mathlib.Numerals.{add-one}
 use native.Mathlib.Omega.{arith}
-use lib.ListN.{length, getD, take, drop, set, length-append, length-take, length-drop, length-set, drop-of-length-le}
+use lib.ListN.{length, getD, take, drop, set, replicate, length-replicate, getD-replicate, length-append, length-take, length-drop, length-set, drop-of-length-le}
 use lib.Seq.{length-take-le, set-at, drop-cons, append-snoc, ext-getD, getD-append-add, getD-drop}
 use Rattle.base.specs.Loop.{table, overwrite}
 
@@ -29,6 +29,9 @@ table-same (suc n) f g e = rw (e 0 (omega arith), table-same n (λ i. f (suc i))
 pub table-of : {A : Type 0} (d : A) (n : ℕ) (f : ℕ → A) (l : List A) → length l ≡ n → ((i : ℕ) → i < n → getD l i d ≡ f i) → l ≡ table n f
 table-of d n f l h e = ext-getD d l (table n f) (h ∙ sym (length-table n f)) (λ i b.
     let c : i < n = omega arith in e i c ∙ sym (getD-table n f i d c))
+
+pub replicate-table : {A : Type 0} (n : ℕ) (a : A) → replicate n a ≡ table n (λ i. a)
+replicate-table n a = table-of a n (λ i. a) (replicate n a) (length-replicate n a) (λ i h. getD-replicate n i a a h)
 
 pub table-more : {A : Type 0} (n : ℕ) (f : ℕ → A) → table (suc n) f ≡ table n f ++ (f n ∷ [])
 unfolding table

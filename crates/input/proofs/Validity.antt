@@ -99,7 +99,7 @@ module _ (I : Input) (passes cpe cpp counts inks : ℕ) where
   refine-valid-iff = Iff·trans (accepted-iff _ refine-numbered) refine-passes
 
 module _ (I : Input) (passes tiles cpe cpp counts states deltas inks : ℕ) where
-  open-passes : Passes (openTests I passes tiles cpe cpp counts states deltas inks) ↔ ValidOpen I passes tiles cpe cpp counts states deltas inks
+  pub open-passes : Passes (openTests I passes tiles cpe cpp counts states deltas inks) ↔ ValidOpen I passes tiles cpe cpp counts states deltas inks
   unfolding openTests openRunTests Passes
   open-passes =
       let last = lengthTest 4 states tiles ∷ lengthTest 5 deltas tiles ∷ lengthTest 8 inks (3 * inkCount I) ∷ [] in

@@ -25,6 +25,10 @@ pub record Opening : Type 0 where
   pub deltas : List Float
   pub inks : List Float
 
+abbrev pub opening : Input → ℕ → List Float → List Float → List ℕ → List ℕ → List Float → List Float → Opening
+opening input passes cpe cpp counts states deltas inks =
+    record { input = input; passes = passes; cpe = cpe; cpp = cpp; counts = counts; states = states; deltas = deltas; inks = inks }
+
 -- its answer, and every buffer that it writes
 pub record Opened : Type 0 where
   pub status : Status
@@ -34,6 +38,10 @@ pub record Opened : Type 0 where
   pub states : List ℕ
   pub deltas : List Float
   pub inks : List Float
+
+abbrev pub opened : Status → JobRecord → List Float → List Float → List ℕ → List Float → List Float → Opened
+opened status rec cpe cpp states deltas inks =
+    record { status = status; rec = rec; cpe = cpe; cpp = cpp; states = states; deltas = deltas; inks = inks }
 
 -- rows 1 to 11
 unfoldable pub openTestsOf : Opening → List Test
@@ -65,15 +73,9 @@ zeroRecord = record {
 
 unfoldable pub openOf : Opening → Opened
 openOf O =
+    let I = O .input in
     let s = judge (openTestsOf O) in
-    let opened : Opened = record {
-      status = s;
-      rec = firstRecord O;
-      cpe = cpeOf (O .input) (O .cpp);
-      cpp = cppOf (O .input) (O .cpp);
-      states = replicate (tiles (tilingOf (O .input))) 0;
-      deltas = replicate (tiles (tilingOf (O .input))) f0;
-      inks = inksOf (O .input);
-    } in
-    let kept : Opened = record { status = s; rec = zeroRecord; cpe = O .cpe; cpp = O .cpp; states = O .states; deltas = O .deltas; inks = O .inks } in
-    cond (isAccepted s) opened kept
+    let new =
+    opened s (firstRecord O) (cpeOf I (O .cpp)) (cppOf I (O .cpp)) (replicate (tiles (tilingOf I)) 0) (replicate (tiles (tilingOf I)) f0) (inksOf I) in
+    let kept = opened s zeroRecord (O .cpe) (O .cpp) (O .states) (O .deltas) (O .inks) in
+    cond (isAccepted s) new kept

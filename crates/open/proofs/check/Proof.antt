@@ -1,0 +1,62 @@
+-- `check` meets its contract: the tests of the input come first, and those of the buffers only once these have passed. Assumes nothing.
+use Prim.Native.Nat.{_*_}
+use native.Mathlib.Omega.{arith}
+use mathlib.Core.Path.{_≡_, sym, ap, _∙_}
+use lib.ListN.{length}
+use Rattle.base.specs.Refusal.{judge}
+use Rattle.tiling.specs.Tiling.{tiles}
+use Rattle.input.specs.Input.{Input, input, pixelCount, inkCount, openRunTests}
+use Rattle.open.proofs.Laws.{input-refused, run-judged, few, tiling-found, limits}
+use borrow.Author.Needs.{needs}
+use Rattle.open.proofs.check.Statement.{statement}
+use Rattle.open.proofs.check.Tie as tie
+
+abbrev I : tie.Start → Input
+I s = input (s .args .width) (s .args .height) (s .args .pixels .now) (s .args .palette .now) (s .args .indices .now) (s .args .pinned .now) (s .args .params)
+
+check-input-requires : tie.Need-check-input-requires
+check-input-requires c κs = search needs
+
+returns : tie.Need-returns
+returns c = (input-refused (I (c .before .before .before .before .before .before .before .before)) _ (c .before .before .before .check-input .ensures) _ _ _ _ _ _ _ _ (c .if1 .taken), λ z. absurd (c .if1 .taken z))
+
+mul-field : tie.Need-mul-field
+mul-field c = omega (arith, few (I (c .before .before .before .before .before .before .before .before .before)) _ (c .before .before .before .before .check-input .ensures) (c .before .if1 .left))
+
+mul-field-2 : tie.Need-mul-field-2
+mul-field-2 c = omega (arith, few (I (c .before .before .before .before .before .before .before .before .before)) _ (c .before .before .before .before .check-input .ensures) (c .before .if1 .left))
+
+mul-values : tie.Need-mul-values
+mul-values c = search needs
+
+tile-count-requires : tie.Need-tile-count-requires
+tile-count-requires c κs = rw (tiling-found (I (c .before .before .before .before .before .before .before .before .before)) _ (c .before .before .before .before .check-input .ensures) (c .before .if1 .left)) (limits (I (c .before .before .before .before .before .before .before .before .before)) _ (c .before .before .before .before .check-input .ensures) (c .before .if1 .left))
+
+check-open-requires : tie.Need-check-open-requires
+check-open-requires c κs = search needs
+
+returns-2 : tie.Need-returns-2
+unfolding pixelCount inkCount
+returns-2 c =
+    let a = c .before .before .before .before .before .before .before .before .before .before .before .args in
+    let found = tiling-found (I (c .before .before .before .before .before .before .before .before .before .before .before)) _ (c .before .before .before .before .before .before .check-input .ensures) (c .before .before .before .if1 .left) in
+    let count = c .before .tile-count .ensures ∙ ap tiles found in
+    (
+    run-judged (I (c .before .before .before .before .before .before .before .before .before .before .before)) _ (c .before .before .before .before .before .before .check-input .ensures) (a .max-passes) _ (a .cpe-len) (a .cpp-len) (a .accepted-per-pass-len) (a .tile-states-len) (a .deltas-len) (a .inks-len) (c .before .before .before .if1 .left)
+    (c .check-open .ensures
+    ∙ ap (λ n. judge (openRunTests (a .max-passes) (3 * pixelCount (I (c .before .before .before .before .before .before .before .before .before .before .before))) (3 * inkCount (I (c .before .before .before .before .before .before .before .before .before .before .before))) n (a .cpe-len) (a .cpp-len) (a .accepted-per-pass-len) (a .tile-states-len) (a .deltas-len) (a .inks-len))) count),
+    λ z. sym found,
+    )
+
+pub check-spec : {M : Type 1} → statement M
+check-spec =
+    tie.close
+    (tie.spec
+    check-input-requires
+    returns
+    mul-field
+    mul-field-2
+    mul-values
+    tile-count-requires
+    check-open-requires
+    returns-2)

@@ -1,0 +1,73 @@
+-- `open` meets its contract: a refusal keeps all, and a valid open prepares the walk and starts the job. Assumes nothing.
+use mathlib.Core.Path.{_≡_, sym, ap₂, _∙_}
+use Rattle.input.specs.Input.{Input, input}
+use Rattle.job.specs.Open.{Opening, opening, opened, openTestsOf}
+use Rattle.job.proofs.Answers.{open-answers}
+use Rattle.open.proofs.Laws.{accepts, opens-as}
+use borrow.Author.Needs.{needs}
+use Rattle.open.proofs.open.Statement.{statement}
+use Rattle.open.proofs.open.Tie as tie
+
+abbrev O : tie.Start → Opening
+O s =
+    opening (input (s .args .width) (s .args .height) (s .args .pixels .now) (s .args .palette .now) (s .args .indices .now) (s .args .pinned .now) (s .args .params))
+    (s .args .max-passes) (s .args .cpe .now) (s .args .cpp .now) (s .args .accepted-per-pass .now) (s .args .tile-states .now) (s .args .deltas .now) (s .args .inks .now)
+
+check-requires : tie.Need-check-requires
+check-requires c κs = search needs
+
+refused-requires : tie.Need-refused-requires
+refused-requires c κs = search needs
+
+returns : tie.Need-returns
+unfolding openTestsOf
+returns c =
+    let o = O (c .before .before .before .before .before .before .before .before .before .before .before .before .before .before .before) in
+    ap₂ (λ s r. opened s r (o .cpe) (o .cpp) (o .states) (o .deltas) (o .inks)) (c .refused .ensures .0) (c .refused .ensures .1)
+    ∙ open-answers o .kept _ (c .before .before .before .before .check .ensures .0) (c .before .if1 .taken)
+
+clear-states-requires : tie.Need-clear-states-requires
+clear-states-requires c κs = search needs
+
+clear-deltas-requires : tie.Need-clear-deltas-requires
+clear-deltas-requires c κs = search needs
+
+prepare-requires : tie.Need-prepare-requires
+unfolding openTestsOf
+prepare-requires c κs = accepts (O (c .before .before .before .before .before .before .before .before .before .before .before .before .before .before .before .before .before .before .before .before .before .before .before .before .before)) _ (c .before .before .before .before .before .before .before .before .before .before .before .before .before .before .check .ensures .0) (c .before .before .before .before .before .before .before .before .before .before .before .if1 .left) _ (sym (c .before .before .before .before .before .before .before .before .before .before .before .before .before .before .check .ensures .1 (c .before .before .before .before .before .before .before .before .before .before .before .if1 .left)))
+
+same-length : tie.Need-same-length
+same-length c = search needs
+
+same-length-2 : tie.Need-same-length-2
+same-length-2 c = search needs
+
+same-length-3 : tie.Need-same-length-3
+same-length-3 c = search needs
+
+same-length-4 : tie.Need-same-length-4
+same-length-4 c = search needs
+
+same-length-5 : tie.Need-same-length-5
+same-length-5 c = search needs
+
+returns-2 : tie.Need-returns-2
+unfolding openTestsOf
+returns-2 c = opens-as (O (c .before .before .before .before .before .before .before .before .before .before .before .before .before .before .before .before .before .before .before .before .before .before .before .before .before .before .before .before .before .before .before .before)) _ (c .before .before .before .before .before .before .before .before .before .before .before .before .before .before .before .before .before .before .before .before .before .check .ensures .0) (c .before .before .before .before .before .before .before .before .before .before .before .before .before .before .before .before .before .before .if1 .left) _ _ _ _ _ _ _ (sym (c .before .before .before .before .before .before .before .before .before .before .before .before .before .before .before .before .before .before .before .before .before .check .ensures .1 (c .before .before .before .before .before .before .before .before .before .before .before .before .before .before .before .before .before .before .if1 .left))) (c .before .before .before .before .before .before .prepare .ensures) (c .before .before .before .before .before .before .before .before .before .before .before .before .before .before .before .before .clear-states .ensures) (c .before .before .before .before .before .before .before .before .before .before .before .before .clear-deltas .ensures)
+
+pub open-spec : {M : Type 1} → statement M
+open-spec =
+    tie.close
+    (tie.spec
+    check-requires
+    refused-requires
+    returns
+    clear-states-requires
+    clear-deltas-requires
+    prepare-requires
+    same-length
+    same-length-2
+    same-length-3
+    same-length-4
+    same-length-5
+    returns-2)
