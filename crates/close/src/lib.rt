@@ -187,10 +187,7 @@ pub fn close(
 {
     let status = check_close(r, accepted_per_pass, tile_states, deltas);
     if status.number != 0 {
-        return Answer {
-            status,
-            record: r,
-        };
+        return Answer { status, record: r };
     }
     let plan = r.plan;
     let phase = r.phase as usize;

@@ -1,13 +1,24 @@
 // The C interface (include/dbs.h): the static library. Numbers pass as themselves, a slice as a pointer
-// and then its number of elements, answers as structs by value.
+// and then its number of elements, answers as structs by value. The job record is a lent run of 12 numbers
+// here; inside it goes by value.
+use base::Status;
 use eye::DbsParams;
 use perceived::Measured;
 use refine::DbsStats;
+use work::DbsWorked;
 ghost use mathlib.Core.List.{[]};
 ghost use mathlib.Core.Path.{_≡_};
 ghost use Rattle.input.specs.Input.{input};
 ghost use Rattle.perceived.specs.Perceived.{measureOf};
 ghost use Rattle.refine.specs.Refine.{refinement, refineOf};
+ghost use Rattle.base.specs.Refusal.{status};
+ghost use Rattle.tile.specs.Tile.{state};
+ghost use Rattle.job.specs.Copy.{pixels};
+ghost use Rattle.job.specs.Open.{opening};
+ghost use Rattle.job.specs.Take.{taken};
+ghost use Rattle.job.specs.Work.{worked};
+ghost use Rattle.job.specs.Words.{decode};
+ghost use Rattle.job.specs.Boundary.{openedRun, openRun, takeRun, workRun, putBackWith, putBackRun, closedWith, closeRun};
 
 // Refine the indices in place, by the plain walk over the whole image.
 #[no_mangle]
@@ -66,4 +77,162 @@ pub extern "C" fn perceived_error(
         ppi,
     };
     perceived::measure(pixels, width, height, palette, indices, params)
+}
+
+// Open a job: everything up to the walk.
+#[no_mangle]
+pub extern "C" fn dbs_open(
+    record: &mut [u64],
+    pixels: &[u8],
+    width: u64,
+    height: u64,
+    palette: &[u8],
+    indices: &[u8],
+    pinned: &[u8],
+    ppi: f64,
+    viewing_distance_cm: f64,
+    max_passes: u64,
+    cpe: &mut [f64],
+    cpp: &mut [f64],
+    accepted_per_pass: &[u32],
+    tile_states: &mut [u8],
+    deltas: &mut [f64],
+    inks: &mut [f64],
+) -> Status
+    ensures { λ s. ⌜ openedRun s (now («record» .exit)) (now (cpe .exit)) (now (cpp .exit)) (now («tile_states» .exit)) (now (deltas .exit)) (now (inks .exit)) ≡ openRun (now («record» .entry)) (opening (input width height (now (pixels .entry)) (now (palette .entry)) (now (indices .entry)) (now (pinned .entry)) (record { «viewing_distance_cm» = «viewing_distance_cm»; ppi = ppi })) «max_passes» (now (cpe .entry)) (now (cpp .entry)) (now («accepted_per_pass» .entry)) (now («tile_states» .entry)) (now (deltas .entry)) (now (inks .entry))) ⌝ }
+{
+    let run = records::check_run(record.len());
+    if run.number != 0 {
+        return run;
+    }
+    let params = DbsParams {
+        viewing_distance_cm,
+        ppi,
+    };
+    let answer = open::open(
+        pixels,
+        width,
+        height,
+        palette,
+        indices,
+        pinned,
+        params,
+        max_passes,
+        cpe,
+        cpp,
+        accepted_per_pass,
+        tile_states,
+        deltas,
+        inks,
+    );
+    let status = answer.status;
+    if status.number == 0 {
+        records::encode(record, answer.record);
+    }
+    status
+}
+
+// Copy a tile's region out and mark the tile out.
+#[no_mangle]
+pub extern "C" fn dbs_take(
+    record: &[u64],
+    tile: u64,
+    indices: &[u8],
+    cpe: &[f64],
+    tile_states: &mut [u8],
+    copy_cpe: &mut [f64],
+    copy_indices: &mut [u8],
+) -> Status
+    ensures { λ s. ⌜ taken s (decode (now («record» .entry))) (now («tile_states» .exit)) (pixels (now («copy_cpe» .exit)) (now («copy_indices» .exit))) ≡ takeRun (now («record» .entry)) tile (pixels (now (cpe .entry)) (now (indices .entry))) (now («tile_states» .entry)) (pixels (now («copy_cpe» .entry)) (now («copy_indices» .entry))) ⌝ }
+{
+    let words = records::check_words(record);
+    if words.number != 0 {
+        return words;
+    }
+    let r = records::decode(record);
+    take::take(r, tile, indices, cpe, tile_states, copy_cpe, copy_indices)
+}
+
+// Refine a tile on its copy. Touches no job state.
+#[no_mangle]
+pub extern "C" fn dbs_work(
+    record: &[u64],
+    tile: u64,
+    pinned: &[u8],
+    cpp: &[f64],
+    copy_cpe: &mut [f64],
+    copy_indices: &mut [u8],
+    inks: &[f64],
+) -> DbsWorked
+    ensures { λ w. ⌜ worked (status (w .number) (w .place)) (state (now («copy_cpe» .exit)) (now («copy_indices» .exit)) (record { accepted = w .accepted; delta = w .delta })) ≡ workRun (now («record» .entry)) tile (now (pinned .entry)) (now (cpp .entry)) (pixels (now («copy_cpe» .entry)) (now («copy_indices» .entry))) (now (inks .entry)) ⌝ }
+{
+    let words = records::check_words(record);
+    if words.number != 0 {
+        return work::refused(words);
+    }
+    let r = records::decode(record);
+    work::work(r, tile, pinned, cpp, copy_cpe, copy_indices, inks)
+}
+
+// Write a copy back over its region, with the count and delta that dbs_work answered.
+#[no_mangle]
+pub extern "C" fn dbs_put_back(
+    record: &mut [u64],
+    tile: u64,
+    indices: &mut [u8],
+    cpe: &mut [f64],
+    tile_states: &mut [u8],
+    deltas: &mut [f64],
+    copy_cpe: &[f64],
+    copy_indices: &[u8],
+    accepted: u64,
+    delta: f64,
+) -> Status
+    ensures { λ s. ⌜ putBackWith s (now («record» .exit)) (pixels (now (cpe .exit)) (now (indices .exit))) (now («tile_states» .exit)) (now (deltas .exit)) ≡ putBackRun (now («record» .entry)) tile (pixels (now (cpe .entry)) (now (indices .entry))) (now («tile_states» .entry)) (now (deltas .entry)) (state (now («copy_cpe» .entry)) (now («copy_indices» .entry)) (record { accepted = accepted; delta = delta })) ⌝ }
+{
+    let words = records::check_words(record);
+    if words.number != 0 {
+        return words;
+    }
+    let r = records::decode(record);
+    let answer = putback::put_back(
+        r,
+        tile,
+        indices,
+        cpe,
+        tile_states,
+        deltas,
+        copy_cpe,
+        copy_indices,
+        accepted,
+        delta,
+    );
+    let status = answer.status;
+    if status.number == 0 {
+        records::rewrite(record, answer.record);
+    }
+    status
+}
+
+// Close the phase: join its deltas to the error and go on to the next phase.
+#[no_mangle]
+pub extern "C" fn dbs_close(
+    record: &mut [u64],
+    accepted_per_pass: &mut [u32],
+    tile_states: &mut [u8],
+    deltas: &[f64],
+) -> Status
+    ensures { λ s. ⌜ closedWith s (now («record» .exit)) (now («accepted_per_pass» .exit)) (now («tile_states» .exit)) ≡ closeRun (now («record» .entry)) (now («accepted_per_pass» .entry)) (now («tile_states» .entry)) (now (deltas .entry)) ⌝ }
+{
+    let words = records::check_words(record);
+    if words.number != 0 {
+        return words;
+    }
+    let r = records::decode(record);
+    let answer = close::close(r, accepted_per_pass, tile_states, deltas);
+    let status = answer.status;
+    if status.number == 0 {
+        records::rewrite(record, answer.record);
+    }
+    status
 }

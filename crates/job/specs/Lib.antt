@@ -10,3 +10,4 @@ pub mod Valid
 pub mod Runs
 pub mod Claim
 pub mod Companions
+pub mod Boundary

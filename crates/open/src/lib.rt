@@ -159,7 +159,17 @@ pub fn open(
     };
     clear_states(tile_states);
     clear_deltas(deltas);
-    let error = prepare::prepare(pixels, palette, indices, pinned, params, tiling, inks, cpp, cpe);
+    let error = prepare::prepare(
+        pixels,
+        palette,
+        indices,
+        pinned,
+        params,
+        tiling,
+        inks,
+        cpp,
+        cpe,
+    );
     let plan = Plan {
         tiling,
         inks: palette.len() as u64 / 3,

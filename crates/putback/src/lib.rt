@@ -33,7 +33,8 @@ fn is_over(r: JobRecord, tile: u64, accepted: u64) -> bool
     let t = plan.tiling;
     if records::has_tile(t, tile) {
         let n = t.height * t.width;
-        return accepted > records::tile_size(t, tile as usize) as u64 || accepted > n as u64 - r.accepted;
+        return accepted > records::tile_size(t, tile as usize) as u64
+            || accepted > n as u64 - r.accepted;
     }
     false
 }
@@ -136,10 +137,7 @@ pub fn put_back(
         delta,
     );
     if status.number != 0 {
-        return Answer {
-            status,
-            record: r,
-        };
+        return Answer { status, record: r };
     }
     let plan = r.plan;
     let i = tile as usize;

@@ -14,8 +14,7 @@ module _ (T : Tiling) (h : Limits T) (t : ℕ) (q : t < tiles T) where
   sides : (W : Rect) → Within (image T) W → Within W (tile T t) → Sides W
   unfolding image
   sides W i o =
-      let some = tile-some T t q in
-      (
+      let some = tile-some T t q in (
         omega (arith, o .left, some .0, o .right),
         omega (arith, i .right, h .width-limit),
         omega (arith, o .top, some .1, o .bottom),

@@ -146,12 +146,7 @@ fn region_size(t: Tiling, tile: usize) -> usize
 }
 
 // Refusal 3, and 11 of `cpe` and the tile states.
-pub fn check_image(
-    t: Tiling,
-    indices_len: usize,
-    cpe_len: usize,
-    tile_states_len: usize,
-) -> Status
+pub fn check_image(t: Tiling, indices_len: usize, cpe_len: usize, tile_states_len: usize) -> Status
     requires { ⌜ Limits t ⌝ }
     ensures { λ s. ⌜ s ≡ judge (test (not (eqb «indices_len» (t .height * t .width))) 3 0 ∷ lengthTest 1 «cpe_len» (3 * (t .height * t .width)) ∷ lengthTest 4 «tile_states_len» (tiles t) ∷ []) ⌝ }
 {
@@ -166,12 +161,7 @@ pub fn check_image(
 }
 
 // Refusal 11 of the copies of a tile's region.
-pub fn check_copy(
-    t: Tiling,
-    tile: usize,
-    copy_cpe_len: usize,
-    copy_indices_len: usize,
-) -> Status
+pub fn check_copy(t: Tiling, tile: usize, copy_cpe_len: usize, copy_indices_len: usize) -> Status
     requires { ⌜ Limits t × (tile < tiles t) ⌝ }
     ensures { λ s. ⌜ s ≡ judge (lengthTest 6 «copy_cpe_len» (3 * area (region t tile)) ∷ lengthTest 7 «copy_indices_len» (area (region t tile)) ∷ []) ⌝ }
 {
@@ -191,11 +181,18 @@ pub fn check_named(r: JobRecord, copy_indices: &[u8]) -> Status
     input::refuse_if(place < copy_indices.len(), 6, place as u64)
 }
 
-// Refusal 12 of a run: another length, or a finished word that is neither 1 nor 0.
+// Refusal 12 of a run's length.
+pub fn check_run(words_len: usize) -> Status
+    ensures { λ s. ⌜ s ≡ judge (test (not (eqb «words_len» 12)) 12 0 ∷ []) ⌝ }
+{
+    limit(words_len != RECORD_LEN)
+}
+
+// Refusal 12 of a run that is read: its length, or a finished word that is neither 1 nor 0.
 pub fn check_words(words: &[u64]) -> Status
     ensures { λ s. ⌜ s ≡ judge (wordsTests (now (words .entry))) ⌝ }
 {
-    let length = limit(words.len() != RECORD_LEN);
+    let length = check_run(words.len());
     if length.number != 0 {
         return length;
     }
@@ -273,6 +270,17 @@ fn write_words(words: &mut [u64], r: JobRecord, initial: u64, error: u64)
         r.finished as u64,
     ];
     copy_words(&run, words);
+}
+
+// A run that holds this record.
+pub fn encode(words: &mut [u64], r: JobRecord)
+    requires { ⌜ length (now words) ≡ 12 ⌝ }
+    ensures { λ _. ⌜ now (words .exit) ≡ run.encode r ⌝ }
+{
+    let plan = r.plan;
+    let initial = bits::of_float(plan.initial);
+    let error = bits::of_float(r.error);
+    write_words(words, r, initial, error);
 }
 
 // The run after a call that was given it and returned this record.

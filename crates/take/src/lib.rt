@@ -85,7 +85,14 @@ pub fn take(
         return status;
     }
     let plan = r.plan;
-    copy_region(plan.tiling, tile as usize, indices, cpe, copy_cpe, copy_indices);
+    copy_region(
+        plan.tiling,
+        tile as usize,
+        indices,
+        cpe,
+        copy_cpe,
+        copy_indices,
+    );
     tile_states[tile as usize] = OUT;
     status
 }

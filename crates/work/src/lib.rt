@@ -2,8 +2,8 @@
 // state, so that workers may run it at the same time, each on its own copy.
 use base::Status;
 use job::JobRecord;
-use moves::Progress;
 ghost use mathlib.Core.Path.{_≡_};
+ghost use Rattle.base.specs.F64.{f0};
 ghost use Rattle.base.specs.Refusal.{judge, status};
 ghost use Rattle.tile.specs.Tile.{state};
 ghost use Rattle.job.specs.Copy.{pixels};
@@ -57,14 +57,15 @@ fn check_work(
     )
 }
 
-fn answer(status: Status, p: Progress) -> DbsWorked
-    ensures { λ w. ⌜ w ≡ record { number = status .number; place = status .place; accepted = p .accepted; delta = p .delta } ⌝ }
+// A refusal, with no moves.
+pub fn refused(status: Status) -> DbsWorked
+    ensures { λ w. ⌜ w ≡ record { number = status .number; place = status .place; accepted = 0; delta = f0 } ⌝ }
 {
     DbsWorked {
         number: status.number,
         place: status.place,
-        accepted: p.accepted as u64,
-        delta: p.delta,
+        accepted: 0,
+        delta: 0.0,
     }
 }
 
@@ -82,11 +83,7 @@ pub fn work(
 {
     let status = check_work(r, tile, pinned, cpp, copy_cpe, copy_indices, inks);
     if status.number != 0 {
-        let none = Progress {
-            accepted: 0,
-            delta: 0.0,
-        };
-        return answer(status, none);
+        return refused(status);
     }
     let plan = r.plan;
     let t = plan.tiling;
@@ -103,5 +100,10 @@ pub fn work(
         region,
         rect,
     );
-    answer(status, made)
+    DbsWorked {
+        number: status.number,
+        place: status.place,
+        accepted: made.accepted as u64,
+        delta: made.delta,
+    }
 }

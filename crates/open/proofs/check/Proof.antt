@@ -40,12 +40,11 @@ unfolding pixelCount inkCount
 returns-2 c =
     let a = c .before .before .before .before .before .before .before .before .before .before .before .args in
     let found = tiling-found (I (c .before .before .before .before .before .before .before .before .before .before .before)) _ (c .before .before .before .before .before .before .check-input .ensures) (c .before .before .before .if1 .left) in
-    let count = c .before .tile-count .ensures ∙ ap tiles found in
-    (
-    run-judged (I (c .before .before .before .before .before .before .before .before .before .before .before)) _ (c .before .before .before .before .before .before .check-input .ensures) (a .max-passes) _ (a .cpe-len) (a .cpp-len) (a .accepted-per-pass-len) (a .tile-states-len) (a .deltas-len) (a .inks-len) (c .before .before .before .if1 .left)
-    (c .check-open .ensures
-    ∙ ap (λ n. judge (openRunTests (a .max-passes) (3 * pixelCount (I (c .before .before .before .before .before .before .before .before .before .before .before))) (3 * inkCount (I (c .before .before .before .before .before .before .before .before .before .before .before))) n (a .cpe-len) (a .cpp-len) (a .accepted-per-pass-len) (a .tile-states-len) (a .deltas-len) (a .inks-len))) count),
-    λ z. sym found,
+    let count = c .before .tile-count .ensures ∙ ap tiles found in (
+      run-judged (I (c .before .before .before .before .before .before .before .before .before .before .before)) _ (c .before .before .before .before .before .before .check-input .ensures) (a .max-passes) _ (a .cpe-len) (a .cpp-len) (a .accepted-per-pass-len) (a .tile-states-len) (a .deltas-len) (a .inks-len) (c .before .before .before .if1 .left)
+          (c .check-open .ensures
+          ∙ ap (λ n. judge (openRunTests (a .max-passes) (3 * pixelCount (I (c .before .before .before .before .before .before .before .before .before .before .before))) (3 * inkCount (I (c .before .before .before .before .before .before .before .before .before .before .before))) n (a .cpe-len) (a .cpp-len) (a .accepted-per-pass-len) (a .tile-states-len) (a .deltas-len) (a .inks-len))) count),
+      λ z. sym found,
     )
 
 pub check-spec : {M : Type 1} → statement M

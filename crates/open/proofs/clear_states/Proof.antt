@@ -4,7 +4,6 @@ use native.Mathlib.Omega.{arith}
 use mathlib.Core.Path.{_≡_, refl, sym, _∙_}
 use borrow.Author.Needs.{needs}
 use lib.ListN.{length, length-set}
-
 use Rattle.base.proofs.TableLaws.{filled, fill-none, fill-turn, fill-done, replicate-table}
 use Rattle.open.proofs.clear_states.Statement.{statement}
 use Rattle.open.proofs.clear_states.Tie as tie

@@ -27,8 +27,8 @@ valid s e z = work-passes _ _ _ _ _ _ .0 (work-answers (s .args .r) (s .args .ti
 check-work-requires : tie.Need-check-work-requires
 check-work-requires c κs = search needs
 
-answer-requires : tie.Need-answer-requires
-answer-requires c κs = search needs
+refused-requires : tie.Need-refused-requires
+refused-requires c κs = search needs
 
 same-length : tie.Need-same-length
 same-length c = search needs
@@ -39,7 +39,7 @@ same-length-2 c = search needs
 returns : tie.Need-returns
 returns c =
     let s = c .before .before .before .before .before .before .before .before .before .before .before in
-    rw (c .answer .ensures) (work-answers (s .args .r) (s .args .tile) (s .args .pinned .now) (s .args .cpp .now) (copies s) (s .args .inks .now) .kept _ (c .before .before .before .check-work .ensures) (c .before .if1 .taken))
+    rw (c .refused .ensures) (work-answers (s .args .r) (s .args .tile) (s .args .pinned .now) (s .args .cpp .now) (copies s) (s .args .inks .now) .kept _ (c .before .before .before .check-work .ensures) (c .before .if1 .taken))
 
 region-rect-requires : tie.Need-region-rect-requires
 region-rect-requires c κs = let v = valid (c .before .before .before .before .before .before .before .before .before .before .before .before) (c .before .before .before .before .check-work .ensures) (c .before .before .if1 .left) in (limits-of (c .before .before .before .before .before .before .before .before .before .before .before .before .args .r) (v .valid), v .tile-has)
@@ -53,8 +53,7 @@ refine-tile-requires c κs =
     let s = c .before .before .before .before .before .before .before .before .before .before .before .before .before .before .before .before in
     let T = s .args .r .plan .tiling in
     let v = valid s (c .before .before .before .before .before .before .before .before .check-work .ensures) (c .before .before .before .before .before .before .if1 .left) in
-    rw (c .before .before .before .region-rect .ensures, c .before .before .tile-rect .ensures)
-    (
+    rw (c .before .before .before .region-rect .ensures, c .before .before .tile-rect .ensures) (
       record {
         limits = limits-of (s .args .r) (v .valid);
         lum-least = omega (arith, v .valid .lum .low);
@@ -71,9 +70,6 @@ refine-tile-requires c κs =
       region-covers T (s .args .tile) (v .tile-has),
     )
 
-answer-requires-2 : tie.Need-answer-requires-2
-answer-requires-2 c κs = search needs
-
 same-length-3 : tie.Need-same-length-3
 same-length-3 c = search needs
 
@@ -83,28 +79,26 @@ same-length-4 c = search needs
 returns-2 : tie.Need-returns-2
 unfolding refinedCopy jobShared
 returns-2 c =
-    let s = c .before .before .before .before .before .before .before .before .before .before .before .before .before .before .before .before .before .before .before .before .before .before in
+    let s = c .before .before .before .before .before .before .before .before .before .before .before .before .before .before .before .before .before .before .before .before .before in
     let a = s .args in
     let S = jobShared (a .r) (a .pinned .now) (a .inks .now) (a .cpp .now) in
-    rw (c .answer2 .ensures)
-    (ap (worked (c .before .before .before .before .before .before .before .before .before .before .before .before .before .before .check-work .result))
-    (c .before .before .before .before .before .refine-tile .ensures
-    ∙ ap₂ (λ W Q. refineTile S W Q (state (a .copy-cpe .now) (a .copy-indices .now) noProgress)) (c .before .before .before .before .before .before .before .before .before .region-rect .ensures) (c .before .before .before .before .before .before .before .before .tile-rect .ensures))
-    ∙ work-answers (a .r) (a .tile) (a .pinned .now) (a .cpp .now) (copies s) (a .inks .now) .made _ (c .before .before .before .before .before .before .before .before .before .before .before .before .before .before .check-work .ensures) (c .before .before .before .before .before .before .before .before .before .before .before .before .if1 .left))
+    ap (worked (c .before .before .before .before .before .before .before .before .before .before .before .before .before .check-work .result))
+    (c .before .before .before .before .refine-tile .ensures
+    ∙ ap₂ (λ W Q. refineTile S W Q (state (a .copy-cpe .now) (a .copy-indices .now) noProgress)) (c .before .before .before .before .before .before .before .before .region-rect .ensures) (c .before .before .before .before .before .before .before .tile-rect .ensures))
+    ∙ work-answers (a .r) (a .tile) (a .pinned .now) (a .cpp .now) (copies s) (a .inks .now) .made _ (c .before .before .before .before .before .before .before .before .before .before .before .before .before .check-work .ensures) (c .before .before .before .before .before .before .before .before .before .before .before .if1 .left)
 
 pub work-spec : {M : Type 1} → statement M
 work-spec =
     tie.close
     (tie.spec
     check-work-requires
-    answer-requires
+    refused-requires
     same-length
     same-length-2
     returns
     region-rect-requires
     tile-rect-requires
     refine-tile-requires
-    answer-requires-2
     same-length-3
     same-length-4
     returns-2)
