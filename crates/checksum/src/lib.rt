@@ -16,8 +16,7 @@ pub fn floats(h: u64, values: &[f64]) -> u64
 {
     let mut sum = h;
     for i in 0..values.len() {
-        let b = bits::of_float(values[i]);
-        sum = mix(mix(sum, b / 4294967296), b % 4294967296);
+        sum = mix_word(sum, bits::of_float(values[i]));
     }
     sum
 }
@@ -36,4 +35,37 @@ fn mix_count(h: u64, count: u32) -> u64
     ensures { λ r. ⌜ r < 4294967291 ⌝ }
 {
     mix(h, count as u64 % 4294967296)
+}
+
+// The checksum of bytes.
+pub fn bytes(values: &[u8]) -> u64 {
+    let mut sum = 0;
+    for i in 0..values.len() {
+        sum = mix_byte(sum, values[i]);
+    }
+    sum
+}
+
+fn mix_byte(h: u64, byte: u8) -> u64
+    requires { ⌜ h < 4294967291 ⌝ }
+    ensures { λ r. ⌜ r < 4294967291 ⌝ }
+{
+    mix(h, byte as u64)
+}
+
+// The checksum of words, each as a float's bits.
+pub fn words(values: &[u64]) -> u64 {
+    let mut sum = 0;
+    for i in 0..values.len() {
+        sum = mix_word(sum, values[i]);
+    }
+    sum
+}
+
+// The high and then the low 32 bits.
+fn mix_word(h: u64, word: u64) -> u64
+    requires { ⌜ h < 4294967291 ⌝ }
+    ensures { λ r. ⌜ r < 4294967291 ⌝ }
+{
+    mix(mix(h, word / 4294967296), word % 4294967296)
 }

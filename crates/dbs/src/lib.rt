@@ -195,7 +195,7 @@ pub extern "C" fn dbs_put_back(
         return words;
     }
     let r = records::decode(record);
-    let answer = putback::put_back(
+    let back = putback::put_back(
         r,
         tile,
         indices,
@@ -207,9 +207,9 @@ pub extern "C" fn dbs_put_back(
         accepted,
         delta,
     );
-    let status = answer.status;
+    let status = back.status;
     if status.number == 0 {
-        records::rewrite(record, answer.record);
+        records::rewrite(record, back.record);
     }
     status
 }
@@ -229,10 +229,10 @@ pub extern "C" fn dbs_close(
         return words;
     }
     let r = records::decode(record);
-    let answer = close::close(r, accepted_per_pass, tile_states, deltas);
-    let status = answer.status;
+    let closed = close::close(r, accepted_per_pass, tile_states, deltas);
+    let status = closed.status;
     if status.number == 0 {
-        records::rewrite(record, answer.record);
+        records::rewrite(record, closed.record);
     }
     status
 }

@@ -1,7 +1,7 @@
-// Runs each call of refine and of measure that compare/replay.txt lists, and writes the answers in
-// that file's form, to be held to the copy of the Rust. What it reads and must write is made by
-//   grep '^call ' compare/replay.txt > crates/replay/stdin
-//   grep -E '^(refine|measure) ' compare/replay.txt > crates/replay/stdout
+// Runs the calls of refine and of measure and the lists of job calls of compare/replay.txt, and writes the
+// answers in that file's form, to be held to the copy of the Rust. What it reads and must write is made by
+//   grep -E '^(call|open|take|work|put_back|close|word|index) ' compare/replay.txt > crates/replay/stdin
+//   grep -E '^(refine|measure|opened|taken|worked|back|closed) ' compare/replay.txt > crates/replay/stdout
 use perceived::Measured;
 use refine::DbsStats;
 ghost use Prim.Native.Nat.{_<_, _≤_};
@@ -38,125 +38,6 @@ const COUNTS: usize = 12;
 
 const INKS: usize = 13;
 
-// A byte of the text, a space past its end.
-fn byte_at(text: &[u8], i: usize) -> u8 {
-    if i < text.len() { text[i] } else { b' ' }
-}
-
-// The index of the line's end.
-fn line_end(text: &[u8], from: usize) -> usize
-    requires { ⌜ from ≤ length (now text) ⌝ }
-    ensures { λ r. ⌜ (from ≤ r) × (r ≤ length (now (text .entry))) ⌝ }
-{
-    for i in from..text.len() {
-        if text[i] == b'\n' {
-            return i;
-        }
-    }
-    text.len()
-}
-
-// Where word k of the line begins.
-fn word(line: &[u8], k: usize) -> usize {
-    let mut left = k;
-    for i in 0..line.len() {
-        if left == 0 {
-            return i;
-        }
-        if line[i] == b' ' {
-            left -= 1;
-        }
-    }
-    line.len()
-}
-
-fn is_digit(b: u8) -> bool {
-    (b >= b'0' && b <= b'9') || (b >= b'a' && b <= b'f')
-}
-
-// What a digit stands for, 0 for another byte.
-fn digit(b: u8) -> u8
-    ensures { λ r. ⌜ r ≤ 15 ⌝ }
-{
-    if b < b'0' {
-        return 0;
-    }
-    if b <= b'9' {
-        return b - b'0';
-    }
-    if b < b'a' {
-        return 0;
-    }
-    if b <= b'f' {
-        return b - 87;
-    }
-    0
-}
-
-fn pair(high: u8, low: u8) -> u8 {
-    16 * digit(high) + digit(low)
-}
-
-// n with one digit more.
-fn push(n: u64, b: u8, base: u64) -> u64 {
-    let two = std::num::wrapping_add_u64(n, n);
-    let four = std::num::wrapping_add_u64(two, two);
-    let eight = std::num::wrapping_add_u64(four, four);
-    let rest = if base == 10 { two } else { eight };
-    let scaled = std::num::wrapping_add_u64(eight, rest);
-    std::num::wrapping_add_u64(scaled, digit(b) as u64)
-}
-
-// The number that begins here, of base 10 or 16.
-fn number_from(line: &[u8], from: usize, base: u64) -> u64 {
-    let mut n = 0;
-    for i in from..line.len() {
-        let b = line[i];
-        if b == b' ' {
-            return n;
-        }
-        n = push(n, b, base);
-    }
-    n
-}
-
-fn number(line: &[u8], k: usize) -> u64 {
-    number_from(line, word(line, k), 10)
-}
-
-fn float(line: &[u8], k: usize) -> f64 {
-    bits::to_float(number_from(line, word(line, k), 16))
-}
-
-// Puts the bytes that begin here into out, as far as it holds them, and says how many.
-fn bytes_from(line: &[u8], from: usize, out: &mut [u8]) -> usize
-    ensures { λ r. ⌜ r ≤ length (now (out .exit)) ⌝ }
-{
-    let mut at = from;
-    for i in 0..out.len() {
-        let high = byte_at(line, at);
-        if !is_digit(high) {
-            return i;
-        }
-        let second = std::num::wrapping_add_usize(at, 1);
-        out[i] = pair(high, byte_at(line, second));
-        at = std::num::wrapping_add_usize(second, 1);
-    }
-    out.len()
-}
-
-fn bytes(line: &[u8], k: usize, out: &mut [u8]) -> usize
-    ensures { λ r. ⌜ r ≤ length (now (out .exit)) ⌝ }
-{
-    bytes_from(line, word(line, k), out)
-}
-
-fn clamp(n: u64, most: usize) -> usize
-    ensures { λ r. ⌜ r ≤ most ⌝ }
-{
-    if n < most as u64 { n as usize } else { most }
-}
-
 fn fill(x: &mut [f64]) {
     for i in 0..x.len() {
         x[i] = -1.0;
@@ -166,23 +47,6 @@ fn fill(x: &mut [f64]) {
 fn fill_counts(counts: &mut [u32]) {
     for i in 0..counts.len() {
         counts[i] = 4294967295;
-    }
-}
-
-fn space() {
-    io::write_all(STDOUT, b" ");
-}
-
-fn print_byte(b: u8) {
-    io::print_hex(STDOUT, b as u64, 2);
-}
-
-fn print_bytes(bytes: &[u8]) {
-    if bytes.len() == 0 {
-        io::write_all(STDOUT, b"-");
-    }
-    for i in 0..bytes.len() {
-        print_byte(bytes[i]);
     }
 }
 
@@ -206,28 +70,13 @@ fn print_counts(counts: &[u32], passes: u64) {
     }
 }
 
-fn print_number(n: u64) {
-    space();
-    io::print_decimal(STDOUT, n);
-}
-
-fn print_float(x: f64) {
-    space();
-    io::print_hex(STDOUT, bits::of_float(x), 16);
-}
-
-fn print_sum(sum: u64) {
-    space();
-    io::print_hex(STDOUT, sum, 8);
-}
-
 fn print_stats(stats: DbsStats) {
     io::write_all(STDOUT, b"refine");
-    print_number(stats.number);
-    print_number(stats.place);
-    print_number(stats.passes);
-    print_float(stats.initial_error);
-    print_float(stats.final_error);
+    lines::print_number(stats.number);
+    lines::print_number(stats.place);
+    lines::print_number(stats.passes);
+    lines::print_float(stats.initial_error);
+    lines::print_float(stats.final_error);
 }
 
 fn print_buffers(
@@ -238,34 +87,34 @@ fn print_buffers(
     counts: &[u32],
     inks: &[f64],
 ) {
-    space();
-    print_bytes(indices);
-    space();
+    lines::space();
+    lines::print_bytes(indices);
+    lines::space();
     print_counts(counts, passes);
-    print_sum(checksum::floats(0, cpe));
-    print_sum(checksum::floats(0, cpp));
-    print_sum(checksum::counts(counts));
-    print_sum(checksum::floats(0, inks));
-    io::write_all(STDOUT, b"\n");
+    lines::print_sum(checksum::floats(0, cpe));
+    lines::print_sum(checksum::floats(0, cpp));
+    lines::print_sum(checksum::counts(counts));
+    lines::print_sum(checksum::floats(0, inks));
+    lines::end_line();
 }
 
 fn print_measured(m: Measured) {
     io::write_all(STDOUT, b"measure");
-    print_number(m.number);
-    print_number(m.place);
-    print_float(m.error);
-    io::write_all(STDOUT, b"\n");
+    lines::print_number(m.number);
+    lines::print_number(m.place);
+    lines::print_float(m.error);
+    lines::end_line();
 }
 
 fn measure(line: &[u8], pixels: &[u8], palette: &[u8], indices: &[u8]) -> Measured {
     dbs::perceived_error(
         pixels,
-        number(line, WIDTH),
-        number(line, HEIGHT),
+        lines::number(line, WIDTH),
+        lines::number(line, HEIGHT),
         palette,
         indices,
-        float(line, PPI),
-        float(line, DISTANCE),
+        lines::float(line, PPI),
+        lines::float(line, DISTANCE),
     )
 }
 
@@ -286,14 +135,14 @@ fn refine_and_print(
     fill(inks);
     let stats = dbs::dbs_refine(
         pixels,
-        number(line, WIDTH),
-        number(line, HEIGHT),
+        lines::number(line, WIDTH),
+        lines::number(line, HEIGHT),
         palette,
         indices,
         pinned,
-        float(line, PPI),
-        float(line, DISTANCE),
-        number(line, MAX_PASSES),
+        lines::float(line, PPI),
+        lines::float(line, DISTANCE),
+        lines::number(line, MAX_PASSES),
         cpe,
         cpp,
         counts,
@@ -343,14 +192,14 @@ fn call(
     counts: &mut [u32],
     inks: &mut [f64],
 ) {
-    let pixels_len = bytes(line, PIXELS, pixels);
-    let palette_len = bytes(line, PALETTE, palette);
-    let pinned_len = bytes(line, PINNED, pinned);
-    let indices_len = bytes(line, INDICES, indices);
-    let cpe_len = clamp(number(line, CPE), cpe.len());
-    let cpp_len = clamp(number(line, CPP), cpp.len());
-    let counts_len = clamp(number(line, COUNTS), counts.len());
-    let inks_len = clamp(number(line, INKS), inks.len());
+    let pixels_len = lines::bytes(line, PIXELS, pixels);
+    let palette_len = lines::bytes(line, PALETTE, palette);
+    let pinned_len = lines::bytes(line, PINNED, pinned);
+    let indices_len = lines::bytes(line, INDICES, indices);
+    let cpe_len = lines::clamp(lines::number(line, CPE), cpe.len());
+    let cpp_len = lines::clamp(lines::number(line, CPP), cpp.len());
+    let counts_len = lines::clamp(lines::number(line, COUNTS), counts.len());
+    let inks_len = lines::clamp(lines::number(line, INKS), inks.len());
     both(
         line,
         &pixels[..pixels_len],
@@ -364,6 +213,86 @@ fn call(
     );
 }
 
+fn fill_bytes(bytes: &mut [u8]) {
+    for i in 0..bytes.len() {
+        bytes[i] = 255;
+    }
+}
+
+fn fill_words(words: &mut [u64]) {
+    for i in 0..words.len() {
+        words[i] = 0xffff_ffff_ffff_ffff;
+    }
+}
+
+// A line of a list of job calls. Its first bytes name the call; an open finds each cell of every buffer set.
+fn job_line(
+    line: &[u8],
+    pixels: &mut [u8],
+    palette: &mut [u8],
+    pinned: &mut [u8],
+    indices: &mut [u8],
+    cpe: &mut [f64],
+    cpp: &mut [f64],
+    counts: &mut [u32],
+    inks: &mut [f64],
+    states: &mut [u8],
+    deltas: &mut [f64],
+    record: &mut [u64],
+    copy_cpe: &mut [f64],
+    copy_indices: &mut [u8],
+) {
+    let first = lines::byte_at(line, 0);
+    if first == b'o' {
+        fill_bytes(pinned);
+        fill_bytes(indices);
+        fill(cpe);
+        fill(cpp);
+        fill_counts(counts);
+        fill(inks);
+        fill_bytes(states);
+        fill(deltas);
+        fill_words(record);
+        fill(copy_cpe);
+        fill_bytes(copy_indices);
+        lists::open(
+            line,
+            pixels,
+            palette,
+            pinned,
+            indices,
+            cpe,
+            cpp,
+            counts,
+            inks,
+            states,
+            deltas,
+            record,
+        );
+    } else if first == b't' {
+        lists::take(line, indices, cpe, states, record, copy_cpe, copy_indices);
+    } else if first == b'p' {
+        lists::put_back(
+            line,
+            indices,
+            cpe,
+            states,
+            deltas,
+            record,
+            copy_cpe,
+            copy_indices,
+        );
+    } else if first == b'c' {
+        lists::close(line, counts, states, deltas, record);
+    } else if first == b'i' {
+        lists::set_index(line, copy_indices);
+    } else if lines::byte_at(line, 3) == b'k' {
+        lists::work(line, pinned, cpp, inks, record, copy_cpe, copy_indices);
+    } else {
+        lists::set_word(line, record);
+    }
+}
+
 fn calls(
     text: &[u8],
     pixels: &mut [u8],
@@ -374,21 +303,46 @@ fn calls(
     cpp: &mut [f64],
     counts: &mut [u32],
     inks: &mut [f64],
+    states: &mut [u8],
+    deltas: &mut [f64],
+    record: &mut [u64],
+    copy_cpe: &mut [f64],
+    copy_indices: &mut [u8],
 ) {
     let mut at = 0;
     while at < text.len() {
-        let end = line_end(text, at);
-        call(
-            &text[at..end],
-            pixels,
-            palette,
-            pinned,
-            indices,
-            cpe,
-            cpp,
-            counts,
-            inks,
-        );
+        let end = lines::line_end(text, at);
+        let line = &text[at..end];
+        if lines::byte_at(line, 1) == b'a' && lines::byte_at(line, 0) == b'c' {
+            call(
+                line,
+                pixels,
+                palette,
+                pinned,
+                indices,
+                cpe,
+                cpp,
+                counts,
+                inks,
+            );
+        } else {
+            job_line(
+                line,
+                pixels,
+                palette,
+                pinned,
+                indices,
+                cpe,
+                cpp,
+                counts,
+                inks,
+                states,
+                deltas,
+                record,
+                copy_cpe,
+                copy_indices,
+            );
+        }
         at = end + 1;
     }
 }
@@ -404,6 +358,11 @@ fn main() {
     let mut cpp = [0.0f64; 8500];
     let mut counts = [0u32; 1024];
     let mut inks = [0.0f64; 1024];
+    let mut states = [0u8; 64];
+    let mut deltas = [0.0f64; 64];
+    let mut record = [0u64; 16];
+    let mut copy_cpe = [0.0f64; 3072];
+    let mut copy_indices = [0u8; 1024];
     calls(
         &text[..n],
         &mut pixels,
@@ -414,5 +373,10 @@ fn main() {
         &mut cpp,
         &mut counts,
         &mut inks,
+        &mut states,
+        &mut deltas,
+        &mut record,
+        &mut copy_cpe,
+        &mut copy_indices,
     );
 }

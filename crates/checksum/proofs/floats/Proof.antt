@@ -24,11 +24,8 @@ shared-slice-read-of-float c = search needs
 of-float-requires : tie.Need-of-float-requires Inv-loop μ-loop
 of-float-requires c κs = search needs
 
-mix-requires : tie.Need-mix-requires Inv-loop μ-loop
-mix-requires c κs = search needs
-
-mix-requires-2 : tie.Need-mix-requires-2 Inv-loop μ-loop
-mix-requires-2 c κs = search needs
+mix-word-requires : tie.Need-mix-word-requires Inv-loop μ-loop
+mix-word-requires c κs = search needs
 
 add-i : tie.Need-add-i Inv-loop μ-loop
 add-i c = search needs
@@ -43,4 +40,4 @@ returns : tie.Need-returns Inv-loop μ-loop
 returns c = search needs
 
 pub floats-spec : {M : Type 1} → statement M
-floats-spec = tie.close (tie.spec Inv-loop μ-loop loop-holds mul-of-float shared-slice-read-of-float of-float-requires mix-requires mix-requires-2 add-i loop-less loop-again returns)
+floats-spec = tie.close (tie.spec Inv-loop μ-loop loop-holds mul-of-float shared-slice-read-of-float of-float-requires mix-word-requires add-i loop-less loop-again returns)

@@ -3,8 +3,8 @@ use mathlib.Core.Path.{_≡_}
 use Prim.Native.Nat.{_-_}
 use lib.ListN.{length}
 use borrow.Author.Needs.{needs}
-use Rattle.replay.proofs.print_bytes.Statement.{statement}
-use Rattle.replay.proofs.print_bytes.Tie as tie
+use Rattle.lines.proofs.print_bytes.Statement.{statement}
+use Rattle.lines.proofs.print_bytes.Tie as tie
 
 abbrev Inv-loop : tie.InvT-loop
 Inv-loop bytes i₀ i-end i = i-end ≡ length bytes

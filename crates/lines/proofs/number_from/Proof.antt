@@ -3,8 +3,8 @@ use mathlib.Core.Path.{_≡_}
 use Prim.Native.Nat.{_-_}
 use lib.ListN.{length}
 use borrow.Author.Needs.{needs}
-use Rattle.replay.proofs.number_from.Statement.{statement}
-use Rattle.replay.proofs.number_from.Tie as tie
+use Rattle.lines.proofs.number_from.Statement.{statement}
+use Rattle.lines.proofs.number_from.Tie as tie
 
 abbrev Inv-loop : tie.InvT-loop
 Inv-loop line from base n₀ i₀ i-end n i = i-end ≡ length line

@@ -3,8 +3,8 @@ use mathlib.Core.Path.{_≡_}
 use Prim.Native.Nat.{_-_}
 use lib.ListN.{length}
 use borrow.Author.Needs.{needs}
-use Rattle.replay.proofs.bytes_from.Statement.{statement}
-use Rattle.replay.proofs.bytes_from.Tie as tie
+use Rattle.lines.proofs.bytes_from.Statement.{statement}
+use Rattle.lines.proofs.bytes_from.Tie as tie
 
 abbrev Inv-loop : tie.InvT-loop
 Inv-loop line from out₀ at₀ i₀ i-end out at i = (i-end ≡ length out₀) × (length out ≡ length out₀)

@@ -1,0 +1,161 @@
+// The lines of compare/replay.txt: words separated by one space, numbers, floats by their bits, bytes of two
+// digits; and their like written.
+ghost use Prim.Native.Nat.{_<_, _≤_};
+ghost use lib.ListN.{length};
+
+const STDOUT: i32 = 1;
+
+// A byte of the text, a space past its end.
+pub fn byte_at(text: &[u8], i: usize) -> u8 {
+    if i < text.len() { text[i] } else { b' ' }
+}
+
+// The index of the line's end.
+pub fn line_end(text: &[u8], from: usize) -> usize
+    requires { ⌜ from ≤ length (now text) ⌝ }
+    ensures { λ r. ⌜ (from ≤ r) × (r ≤ length (now (text .entry))) ⌝ }
+{
+    for i in from..text.len() {
+        if text[i] == b'\n' {
+            return i;
+        }
+    }
+    text.len()
+}
+
+// Where word k of the line begins.
+pub fn word(line: &[u8], k: usize) -> usize {
+    let mut left = k;
+    for i in 0..line.len() {
+        if left == 0 {
+            return i;
+        }
+        if line[i] == b' ' {
+            left -= 1;
+        }
+    }
+    line.len()
+}
+
+fn is_digit(b: u8) -> bool {
+    (b >= b'0' && b <= b'9') || (b >= b'a' && b <= b'f')
+}
+
+// What a digit stands for, 0 for another byte.
+fn digit(b: u8) -> u8
+    ensures { λ r. ⌜ r ≤ 15 ⌝ }
+{
+    if b < b'0' {
+        return 0;
+    }
+    if b <= b'9' {
+        return b - b'0';
+    }
+    if b < b'a' {
+        return 0;
+    }
+    if b <= b'f' {
+        return b - 87;
+    }
+    0
+}
+
+fn pair(high: u8, low: u8) -> u8 {
+    16 * digit(high) + digit(low)
+}
+
+// n with one digit more.
+fn push(n: u64, b: u8, base: u64) -> u64 {
+    let two = std::num::wrapping_add_u64(n, n);
+    let four = std::num::wrapping_add_u64(two, two);
+    let eight = std::num::wrapping_add_u64(four, four);
+    let rest = if base == 10 { two } else { eight };
+    let scaled = std::num::wrapping_add_u64(eight, rest);
+    std::num::wrapping_add_u64(scaled, digit(b) as u64)
+}
+
+// The number that begins here, of base 10 or 16.
+pub fn number_from(line: &[u8], from: usize, base: u64) -> u64 {
+    let mut n = 0;
+    for i in from..line.len() {
+        let b = line[i];
+        if b == b' ' {
+            return n;
+        }
+        n = push(n, b, base);
+    }
+    n
+}
+
+pub fn number(line: &[u8], k: usize) -> u64 {
+    number_from(line, word(line, k), 10)
+}
+
+pub fn float(line: &[u8], k: usize) -> f64 {
+    bits::to_float(number_from(line, word(line, k), 16))
+}
+
+// Puts the bytes that begin here into out, as far as it holds them, and says how many.
+fn bytes_from(line: &[u8], from: usize, out: &mut [u8]) -> usize
+    ensures { λ r. ⌜ r ≤ length (now (out .exit)) ⌝ }
+{
+    let mut at = from;
+    for i in 0..out.len() {
+        let high = byte_at(line, at);
+        if !is_digit(high) {
+            return i;
+        }
+        let second = std::num::wrapping_add_usize(at, 1);
+        out[i] = pair(high, byte_at(line, second));
+        at = std::num::wrapping_add_usize(second, 1);
+    }
+    out.len()
+}
+
+pub fn bytes(line: &[u8], k: usize, out: &mut [u8]) -> usize
+    ensures { λ r. ⌜ r ≤ length (now (out .exit)) ⌝ }
+{
+    bytes_from(line, word(line, k), out)
+}
+
+pub fn clamp(n: u64, most: usize) -> usize
+    ensures { λ r. ⌜ r ≤ most ⌝ }
+{
+    if n < most as u64 { n as usize } else { most }
+}
+
+pub fn space() {
+    io::write_all(STDOUT, b" ");
+}
+
+fn print_byte(b: u8) {
+    io::print_hex(STDOUT, b as u64, 2);
+}
+
+pub fn print_bytes(bytes: &[u8]) {
+    if bytes.len() == 0 {
+        io::write_all(STDOUT, b"-");
+    }
+    for i in 0..bytes.len() {
+        print_byte(bytes[i]);
+    }
+}
+
+pub fn print_number(n: u64) {
+    space();
+    io::print_decimal(STDOUT, n);
+}
+
+pub fn print_float(x: f64) {
+    space();
+    io::print_hex(STDOUT, bits::of_float(x), 16);
+}
+
+pub fn print_sum(sum: u64) {
+    space();
+    io::print_hex(STDOUT, sum, 8);
+}
+
+pub fn end_line() {
+    io::write_all(STDOUT, b"\n");
+}
