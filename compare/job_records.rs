@@ -123,13 +123,14 @@ fn arbitrary(r: &mut Random, kind: Kind) -> (Tiling, Job, TileCopy) {
 /// Mostly small; sometimes of several tiles. Work and close are not given the image: theirs is sometimes the
 /// largest.
 fn size(r: &mut Random, kind: Kind) -> (u64, u64) {
-    match r.below(100) {
-        0 if !matches!(kind, Kind::Take | Kind::PutBack) => (4096, 4096),
-        0 => (4096, r.below(2)),
-        1..=5 => (r.between(65, 200), r.between(0, 2)),
-        6..=10 => (r.between(1, 2), r.between(65, 200)),
-        11 => (r.between(65, 135), r.between(65, 135)),
-        12..=14 => (r.between(1, 8), 0),
+    match r.below(200) {
+        0 | 1 if !matches!(kind, Kind::Take | Kind::PutBack) => (4096, 4096),
+        0..=2 => (4096, r.between(0, 2)),
+        3 => (r.between(1, 2), 4096),
+        4..=13 => (r.between(65, 200), r.between(0, 2)),
+        14..=23 => (r.between(1, 2), r.between(65, 200)),
+        24..=26 => (r.between(65, 135), r.between(65, 135)),
+        27..=32 => (r.between(1, 8), 0),
         _ => (r.between(1, 8), r.between(1, 6)),
     }
 }

@@ -101,9 +101,9 @@ impl Tiling {
             cpp: [kernel(0, self.radii[0]), kernel(CPP_CHROMA, self.radii[1])],
             pinned: (!mask.is_empty()).then_some(&mask[..]),
         };
-        let mut field = triples(cpe);
-        let (accepted, delta) = refine_region(&reads, window, self.tile(tile), &mut field, indices);
-        for (cell, value) in cpe.iter_mut().zip(field.as_flattened()) {
+        let mut channels = triples(cpe);
+        let (accepted, delta) = refine_region(&reads, window, self.tile(tile), &mut channels, indices);
+        for (cell, value) in cpe.iter_mut().zip(channels.as_flattened()) {
             *cell = value.to_bits();
         }
         (accepted as u64, delta.to_bits())
