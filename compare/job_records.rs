@@ -18,7 +18,7 @@ pub fn compare(seed: u64, scale: f64) -> Section {
     let mut r = Random(seed);
     let mut answers = BTreeMap::new();
     opens(&mut r, &mut section);
-    for i in 0..(60_000.0 * scale) as u64 {
+    for i in 0..(100_000.0 * scale) as u64 {
         let kind = r.pick(&[Kind::Take, Kind::Work, Kind::PutBack, Kind::Close]);
         let (tiling, mut job, mut copy) = arbitrary(&mut r, kind);
         for _ in 0..r.pick(&[0, 0, 0, 1, 1, 2, 3]) {

@@ -229,10 +229,8 @@ fn rows(call: Call) -> Vec<Line> {
         for &slice in lent(Some(kind)) {
             changed.extend([line(0, made, &|l| l[slice] -= 1), line(0, made, &|l| l[slice] += 1)]);
         }
-        match kind {
-            Kind::Take | Kind::Work => changed.extend([1, 2, 1 << 32, u64::MAX].map(|tile| line(tile, made, &|_| ()))),
-            Kind::PutBack => changed.extend([1, 2, u64::MAX].map(|tile| line(tile, made, &|_| ()))),
-            Kind::Close => (),
+        if kind != Kind::Close {
+            changed.extend([1, 2, 1 << 32, u64::MAX].map(|tile| line(tile, made, &|_| ())));
         }
         if kind == Kind::PutBack {
             changed.extend([65, 71, u64::MAX].map(|accepted| line(0, (accepted, made.1), &|_| ())));

@@ -48,7 +48,7 @@ pub fn compare(seed: u64, scale: f64) -> [Section; 3] {
     let mut sections = ["job lists", "job states", "calls of job lists"].map(Section::new);
     let (mut answers, mut finished, mut several) = (BTreeMap::new(), 0, 0);
     let mut r = Random(seed);
-    for name in 0..(6000.0 * scale) as u64 {
+    for name in 0..(10_000.0 * scale) as u64 {
         let mut call = image(&mut r);
         call.lend();
         let mut list = List::new(name, Random(r.next()), &call, &mut sections, &mut answers);
@@ -67,7 +67,7 @@ pub fn compare(seed: u64, scale: f64) -> [Section; 3] {
 
 fn image(r: &mut Random) -> Call {
     let small = |r: &mut Random| DbsParams { max_passes: r.pick(&[1, 2]), ..reach(1, r.fraction()) };
-    let (width, height, most_inks, params) = match r.below(150) {
+    let (width, height, most_inks, params) = match r.below(120) {
         0 => (r.between(65, 140), r.between(65, 140), 4, small(r)),
         1..=17 => (r.between(65, 400), r.between(1, 3), 256, random_eye(r)),
         18..=25 => (r.between(1, 3), r.between(65, 300), 256, random_eye(r)),
@@ -120,12 +120,12 @@ impl<'a> List<'a> {
         let waiting = |&tile: &u64| self.job.tile_states[tile as usize] == 0;
         let waiting: Vec<u64> = self.tiling.of_phase(phase).filter(waiting).collect();
         let made: Vec<usize> = (0..self.out.len()).filter(|&i| self.out[i].made.is_some()).collect();
-        match self.r.below(10) {
+        match self.r.below(12) {
             0..=3 if !waiting.is_empty() => self.take(&waiting),
             2..=6 if !self.out.is_empty() => self.work(),
             5..=8 if !made.is_empty() => self.put_back(&made),
-            8 => self.other_call(),
-            9 => self.close(),
+            9 | 10 => self.other_call(),
+            11 => self.close(),
             _ if waiting.is_empty() && self.out.is_empty() => self.close(),
             _ => Ok(()),
         }
