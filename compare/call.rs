@@ -1,5 +1,7 @@
 //! What refine and measure are given and what they answer. Floats of buffers and answers are bits.
 
+use crate::original::DbsParams;
+
 /// The arguments of `dbs_refine`; `perceived_error` takes those that it has.
 #[derive(Clone)]
 pub struct Call {
@@ -56,6 +58,10 @@ impl Call {
         self.lent.inks = floats(self.palette.len(), 3);
     }
 
+    pub fn params(&self) -> DbsParams {
+        DbsParams { viewing_distance_cm: self.viewing_distance_cm, ppi: self.ppi, max_passes: self.max_passes as u32 }
+    }
+
     pub fn same_to_measure(&self, other: &Self) -> bool {
         let numbers = |c: &Self| (c.width, c.height, c.ppi, c.viewing_distance_cm);
         numbers(self) == numbers(other)
@@ -84,7 +90,8 @@ impl Measured {
     }
 }
 
-fn first<T: PartialEq + std::fmt::LowerHex>(name: &str, found: &[T], expected: &[T]) -> Option<String> {
+/// The first cell that differs, if any does.
+pub fn first<T: PartialEq + std::fmt::LowerHex>(name: &str, found: &[T], expected: &[T]) -> Option<String> {
     if found.len() != expected.len() {
         return Some(format!("{} cells of {name}, expected {}", found.len(), expected.len()));
     }

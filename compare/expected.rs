@@ -1,7 +1,7 @@
 //! What document 01 says of an input, and the copy of the Rust where the input is accepted.
 
-use crate::call::{Call, Measured, Refined, CPP_CHROMA, CPP_LEN};
-use crate::original::{dbs_refine, eye_sigmas, perceived_error, DbsParams, SrgbPalette};
+use crate::call::{Buffers, Call, Measured, Refined, CPP_CHROMA, CPP_LEN};
+use crate::original::{dbs_refine, eye_sigmas, perceived_error, SrgbPalette};
 
 pub fn refine(call: &Call) -> Refined {
     let (number, place) = refusal(call, false);
@@ -17,7 +17,7 @@ pub fn refine(call: &Call) -> Refined {
         &palette(call),
         &mut lent.indices,
         (!pinned.is_empty()).then_some(&pinned[..]),
-        &params(call),
+        &call.params(),
     );
     let put = |cells: &mut [u64], values: &[f64]| {
         for (cell, value) in cells.iter_mut().zip(values) {
@@ -41,13 +41,19 @@ pub fn refine(call: &Call) -> Refined {
     }
 }
 
+/// Refine with no pass allowed and no counts: everything up to the walk.
+pub fn start(call: &Call) -> Refined {
+    let lent = Buffers { accepted_per_pass: vec![], ..call.lent.clone() };
+    refine(&Call { max_passes: 0, lent, ..call.clone() })
+}
+
 pub fn measure(call: &Call) -> Measured {
     let (number, place) = refusal(call, true);
     if number > 0 {
         return Measured { number, place, error: 0 };
     }
     let (width, height) = (call.width as usize, call.height as usize);
-    let error = perceived_error(&call.pixels, width, height, &palette(call), &call.lent.indices, &params(call));
+    let error = perceived_error(&call.pixels, width, height, &palette(call), &call.lent.indices, &call.params());
     Measured { number, place, error: error.to_bits() }
 }
 
@@ -62,7 +68,7 @@ pub fn refusal(call: &Call, measuring: bool) -> (u64, u64) {
     let lent = &call.lent;
     let unnamed = lent.indices.iter().position(|&index| usize::from(index) >= inks);
     let usable = |x: f64| x.is_finite() && x > 0.0;
-    let [luminance, chrominance] = eye_sigmas(&params(call));
+    let [luminance, chrominance] = eye_sigmas(&call.params());
     let rows = [
         (2, 0, call.pixels.len() != 3 * n),
         (3, 0, lent.indices.len() != n),
@@ -84,8 +90,4 @@ pub fn refusal(call: &Call, measuring: bool) -> (u64, u64) {
 
 fn palette(call: &Call) -> SrgbPalette {
     SrgbPalette { colors: call.palette.chunks_exact(3).map(|c| [c[0], c[1], c[2]]).collect() }
-}
-
-fn params(call: &Call) -> DbsParams {
-    DbsParams { viewing_distance_cm: call.viewing_distance_cm, ppi: call.ppi, max_passes: call.max_passes as u32 }
 }

@@ -128,25 +128,25 @@ pub fn measure(call: &Call) -> Measured {
 }
 
 /// A copy of a slice with cells before and after it that no call may touch. Bytes start unaligned.
-struct Lent<T>(Vec<T>);
+pub struct Lent<T>(Vec<T>);
 
 const BESIDE: usize = 5;
 
 impl<T: Copy + PartialEq + From<u8>> Lent<T> {
-    fn new(cells: &[T]) -> Self {
+    pub fn new(cells: &[T]) -> Self {
         let beside = [T::from(0xa5); BESIDE];
         Self([&beside, cells, &beside].concat())
     }
 
-    fn start(&mut self) -> *mut T {
+    pub fn start(&mut self) -> *mut T {
         self.0[BESIDE..].as_mut_ptr()
     }
 
-    fn len(&self) -> usize {
+    pub fn len(&self) -> usize {
         self.0.len() - 2 * BESIDE
     }
 
-    fn back(self) -> Vec<T> {
+    pub fn back(self) -> Vec<T> {
         let end = BESIDE + self.len();
         let beside = [&self.0[..BESIDE], &self.0[end..]].concat();
         assert!(beside.iter().all(|&cell| cell == T::from(0xa5)), "written beside a slice");

@@ -4,6 +4,14 @@
 mod call;
 mod expected;
 mod eyes;
+mod job;
+mod job_changes;
+mod job_expected;
+mod job_library;
+mod job_lines;
+mod job_records;
+mod job_replay;
+mod jobs;
 mod library;
 mod light;
 mod light_table;
@@ -14,6 +22,8 @@ mod random;
 mod refine;
 mod refusals;
 mod replay;
+mod tiles;
+mod walk;
 
 use std::fmt::{Debug, Display};
 use std::process::ExitCode;
@@ -63,7 +73,7 @@ fn main() -> ExitCode {
 
 fn compare(seed: u64, scale: f64) -> ExitCode {
     let groups = plates::groups(seed, scale);
-    let sections = [
+    let mut sections = vec![
         light::compare(),
         plate::compare(),
         eyes::compare(),
@@ -72,6 +82,8 @@ fn compare(seed: u64, scale: f64) -> ExitCode {
         refusals::compare(seed, scale),
         replay::compare(),
     ];
+    sections.extend(jobs::compare(seed, scale));
+    sections.push(job_records::compare(seed, scale));
     let counts: Vec<_> = sections.iter().map(|s| format!("{} {}", s.count, s.name)).collect();
     let differences: usize = sections.iter().map(|s| s.differences).sum();
     println!("compare: {}, {differences} differences", counts.join(", "));

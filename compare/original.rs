@@ -669,3 +669,30 @@ pub fn kernel_of_samples(g: &[f64]) -> Vec<f64> {
     let data = (0..size * size).map(|i| g[i / size] * g[i % size] / (sum * sum)).collect();
     autocorrelate(&Kernel2D { radius: size / 2, size, data }).data
 }
+
+/// What `refine_tile` reads of an image, `c_pp` as radius and values, `[luminance, chrominance]`.
+pub struct Reads<'a> {
+    pub width: usize,
+    pub height: usize,
+    pub inks: &'a [[f64; 3]],
+    pub cpp: [(usize, &'a [f64]); 2],
+    pub pinned: Option<&'a [bool]>,
+}
+
+/// `refine_tile` on `c_pe` and indices of a region; rectangles are `[x0, y0, x1, y1]`.
+pub fn refine_region(
+    reads: &Reads,
+    region: [usize; 4],
+    tile: [usize; 4],
+    cpe: &mut Vec<[f64; 3]>,
+    indices: &mut Vec<u8>,
+) -> (usize, f64) {
+    let &Reads { width, height, inks, cpp, pinned } = reads;
+    let rect = |[x0, y0, x1, y1]: [usize; 4]| Rect { x0, y0, x1, y1 };
+    let kernel = |(radius, data): (usize, &[f64])| Kernel2D { radius, size: 2 * radius + 1, data: data.to_vec() };
+    let [cpp_lum, cpp_chroma] = &cpp.map(kernel);
+    let mut region = Region { rect: rect(region), cpe: std::mem::take(cpe), indices: std::mem::take(indices) };
+    let answer = refine_tile(&Shared { width, height, inks, cpp_lum, cpp_chroma, pinned }, &mut region, rect(tile));
+    (*cpe, *indices) = (region.cpe, region.indices);
+    answer
+}

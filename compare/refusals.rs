@@ -12,9 +12,9 @@ use crate::refine::{measure_one, refine_one};
 use crate::{expected, Section};
 
 /// A change of a call in what one row of the table is about, to either side of its limit.
-struct Change {
+pub struct Change {
     row: u64,
-    make: Box<dyn Fn(&mut Call)>,
+    pub make: Box<dyn Fn(&mut Call)>,
 }
 
 pub fn compare(seed: u64, scale: f64) -> Section {
@@ -53,7 +53,7 @@ pub fn compare(seed: u64, scale: f64) -> Section {
 
 /// Plates to change, with lent buffers: small ones, the first of 6 pixels with a mask, and sizes on
 /// both sides of their limits.
-fn plates(r: &mut Random) -> Vec<Call> {
+pub fn plates(r: &mut Random) -> Vec<Call> {
     let sizes = [(3, 2, 2), (1, 1, 256), (2, 2, 255), (2, 0, 1), (0, 0, 2), (0, 1, 2), (1, 0, 2)];
     let limits = [(4096, 1, 2), (4097, 1, 2), (1, 4096, 2), (1, 4097, 2), (4096, 0, 2), (4097, 0, 2)];
     let params = DbsParams { max_passes: 3, ..DbsParams::default() };
@@ -73,7 +73,7 @@ fn largest() -> Call {
     call
 }
 
-fn changes() -> Vec<Change> {
+pub fn changes() -> Vec<Change> {
     const LARGE: [u64; 6] = [1 << 32, (1 << 32) + 1, (1 << 32) + 3, 1 << 63, (1 << 63) + 3, u64::MAX];
     // Of these products 6 pixels remain, or 0 or 1, where it wraps.
     const WRAPPING: [(u64, u64); 6] = [

@@ -2,14 +2,15 @@
 
 use crate::call::{Call, Measured, Refined};
 use crate::eyes::{around, checksum, eye, halves};
+use crate::job_lines::Side;
 use crate::original::{eye_sigmas, DbsParams};
 use crate::plates::{call, equal_swaps, plate, program_plate, random_eye, reach, smallest};
 use crate::random::Random;
-use crate::{expected, library, Section};
+use crate::{expected, job_lines, job_replay, library, Section};
 
 const HEADER: &str = "\
-# Calls of refine and measure with their answers, by document 01's table of refusals and the copy of
-# the Rust, made with
+# Calls of refine and measure, then of jobs, with their answers, by document 01's table of refusals and the
+# copy of the Rust, made with
 #   compare/run --replay > compare/replay.txt
 # Three lines for a call; words are separated by one space, and none is empty.
 #   call WIDTH HEIGHT MAX_PASSES PPI DISTANCE PIXELS PALETTE PINNED INDICES CPE CPP COUNTS INKS
@@ -24,12 +25,38 @@ const HEADER: &str = "\
 # last four words are checksums of the buffers afterwards, untouched cells too, 8 hexadecimal digits:
 # h = 0; for each cell, of an f64 first the high and then the low 32 bits, h becomes
 # (31 h + those 32 bits) mod 4294967291.
+#
+# Lists of job calls follow. A list begins with an open; each call is given what the lines before it left.
+# Two lines for a call, or one that changes a cell before the next call:
+#   open WIDTH HEIGHT MAX_PASSES PPI DISTANCE PIXELS PALETTE PINNED INDICES CPE CPP COUNTS INKS STATES DELTAS RECORD
+#   opened NUMBER PLACE CPE CPP INKS STATES DELTAS RECORD
+#   take TILE FROM INDICES CPE STATES RECORD COPY_CPE COPY_INDICES
+#   taken NUMBER PLACE STATES COPY_CPE COPY_INDICES
+#   work TILE FROM PINNED CPP INKS RECORD COPY_CPE COPY_INDICES
+#   worked NUMBER PLACE ACCEPTED DELTA COPY_CPE COPY_INDICES
+#   put_back TILE FROM ACCEPTED DELTA INDICES CPE STATES DELTAS RECORD COPY_CPE COPY_INDICES
+#   back NUMBER PLACE INDICES CPE STATES DELTAS RECORD
+#   close COUNTS STATES DELTAS RECORD
+#   closed NUMBER PLACE COUNTS STATES RECORD
+#   word I VALUE
+#   index I BYTE
+# An open's words up to INDICES are as in a call. In the line of a call, the names of slices stand for their
+# lengths, in its answer for the checksums of those that it may write, afterwards; a word of the record counts
+# as an f64. TILE, FROM, ACCEPTED, I, BYTE: decimal. DELTA, VALUE: 16 hexadecimal digits.
+# A slice is lent from the first cell of its buffer on, but COPY_CPE from cell 3 FROM on and COPY_INDICES from
+# cell FROM on, so that each tile that is out has a copy of its own. word sets word I of the record, index
+# cell I of the buffer of COPY_INDICES. Before an open, each cell of every buffer is set: floats to -1.0,
+# counts to 4294967295, bytes to 255, words of the record to ffffffffffffffff; then PINNED and INDICES are put.
+# No slice ends behind cell 1024 of its buffer, but CPP (8500) and COPY_CPE (3072).
 ";
 
 /// replay.txt against the list made anew, and against what the library answers.
 pub fn compare() -> Section {
     let mut section = Section::new("lines of replay.txt");
-    let lists = [list(expected::refine, expected::measure), list(library::refine, library::measure)];
+    let lists = [
+        list(expected::refine, expected::measure, &job_lines::EXPECTED),
+        list(library::refine, library::measure, &job_lines::LIBRARY),
+    ];
     let lines = |text: &'static str| text.lines().filter(|line| !line.starts_with('#')).collect::<Vec<_>>();
     let kept = lines(include_str!("replay.txt"));
     for made in lists {
@@ -43,10 +70,10 @@ pub fn compare() -> Section {
 
 /// The text of replay.txt.
 pub fn text() -> String {
-    HEADER.to_string() + &list(expected::refine, expected::measure)
+    HEADER.to_string() + &list(expected::refine, expected::measure, &job_lines::EXPECTED)
 }
 
-fn list(refine: fn(&Call) -> Refined, measure: fn(&Call) -> Measured) -> String {
+fn list(refine: fn(&Call) -> Refined, measure: fn(&Call) -> Measured, jobs: &Side) -> String {
     let mut text = String::new();
     for (title, calls) in groups() {
         text += &format!("# {title}\n");
@@ -54,21 +81,23 @@ fn list(refine: fn(&Call) -> Refined, measure: fn(&Call) -> Measured) -> String 
             text += &format!("{}\n{}\n{}\n", call_line(call), refine_line(&refine(call)), measure_line(&measure(call)));
         }
     }
-    text
+    text + &job_replay::text(jobs)
 }
 
 pub fn call_line(call: &Call) -> String {
+    let lent = &call.lent;
+    let [cpe, cpp, inks] = [&lent.cpe, &lent.cpp, &lent.inks].map(Vec::len);
+    format!("call {} {cpe} {cpp} {} {inks}", input_words(call), lent.accepted_per_pass.len())
+}
+
+/// The words of a call before the lengths.
+pub fn input_words(call: &Call) -> String {
     let [ppi, distance] = [call.ppi, call.viewing_distance_cm].map(f64::to_bits);
     let [pixels, palette, pinned, indices] =
         [&call.pixels, &call.palette, &call.pinned, &call.lent.indices].map(|bytes| hexadecimal(bytes));
-    let lent = &call.lent;
-    let [cpe, cpp, inks] = [&lent.cpe, &lent.cpp, &lent.inks].map(Vec::len);
     format!(
-        "call {} {} {} {ppi:016x} {distance:016x} {pixels} {palette} {pinned} {indices} {cpe} {cpp} {} {inks}",
-        call.width,
-        call.height,
-        call.max_passes,
-        lent.accepted_per_pass.len()
+        "{} {} {} {ppi:016x} {distance:016x} {pixels} {palette} {pinned} {indices}",
+        call.width, call.height, call.max_passes
     )
 }
 
@@ -139,7 +168,7 @@ fn groups() -> Vec<(&'static str, Vec<Call>)> {
 
 const BLACK_WHITE: [u8; 6] = [0, 0, 0, 255, 255, 255];
 
-fn allowed(max_passes: u32) -> DbsParams {
+pub fn allowed(max_passes: u32) -> DbsParams {
     DbsParams { max_passes, ..DbsParams::default() }
 }
 
@@ -179,7 +208,7 @@ fn small_gains() -> Vec<Call> {
 }
 
 /// The first random plate that the copy of the Rust moves in two passes or more.
-fn lively(r: &mut Random, width: u64, height: u64, inks: u64, params: DbsParams) -> Call {
+pub fn lively(r: &mut Random, width: u64, height: u64, inks: u64, params: DbsParams) -> Call {
     loop {
         let mut call = plate(r, width, height, inks, params);
         call.lend();
