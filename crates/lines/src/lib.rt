@@ -13,7 +13,7 @@ pub fn byte_at(text: &[u8], i: usize) -> u8 {
 // The index of the line's end.
 pub fn line_end(text: &[u8], from: usize) -> usize
     requires { ⌜ from ≤ length (now text) ⌝ }
-    ensures { λ r. ⌜ (from ≤ r) × (r ≤ length (now (text .entry))) ⌝ }
+    ensures { λ r. ⌜ (from ≤ r) × (r ≤ length (now (text .entry))) × (r < 18446744073709551615) ⌝ }
 {
     for i in from..text.len() {
         if text[i] == b'\n' {

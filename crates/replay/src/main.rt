@@ -293,6 +293,58 @@ fn job_line(
     }
 }
 
+fn is_call(line: &[u8]) -> bool {
+    lines::byte_at(line, 0) == b'c' && lines::byte_at(line, 1) == b'a'
+}
+
+fn run(
+    line: &[u8],
+    pixels: &mut [u8],
+    palette: &mut [u8],
+    pinned: &mut [u8],
+    indices: &mut [u8],
+    cpe: &mut [f64],
+    cpp: &mut [f64],
+    counts: &mut [u32],
+    inks: &mut [f64],
+    states: &mut [u8],
+    deltas: &mut [f64],
+    record: &mut [u64],
+    copy_cpe: &mut [f64],
+    copy_indices: &mut [u8],
+) {
+    if is_call(line) {
+        call(
+            line,
+            pixels,
+            palette,
+            pinned,
+            indices,
+            cpe,
+            cpp,
+            counts,
+            inks,
+        );
+    } else {
+        job_line(
+            line,
+            pixels,
+            palette,
+            pinned,
+            indices,
+            cpe,
+            cpp,
+            counts,
+            inks,
+            states,
+            deltas,
+            record,
+            copy_cpe,
+            copy_indices,
+        );
+    }
+}
+
 fn calls(
     text: &[u8],
     pixels: &mut [u8],
@@ -312,37 +364,22 @@ fn calls(
     let mut at = 0;
     while at < text.len() {
         let end = lines::line_end(text, at);
-        let line = &text[at..end];
-        if lines::byte_at(line, 1) == b'a' && lines::byte_at(line, 0) == b'c' {
-            call(
-                line,
-                pixels,
-                palette,
-                pinned,
-                indices,
-                cpe,
-                cpp,
-                counts,
-                inks,
-            );
-        } else {
-            job_line(
-                line,
-                pixels,
-                palette,
-                pinned,
-                indices,
-                cpe,
-                cpp,
-                counts,
-                inks,
-                states,
-                deltas,
-                record,
-                copy_cpe,
-                copy_indices,
-            );
-        }
+        run(
+            &text[at..end],
+            pixels,
+            palette,
+            pinned,
+            indices,
+            cpe,
+            cpp,
+            counts,
+            inks,
+            states,
+            deltas,
+            record,
+            copy_cpe,
+            copy_indices,
+        );
         at = end + 1;
     }
 }
