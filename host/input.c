@@ -48,8 +48,8 @@ static bool load_pinned(FILE *file, const char *name, struct input *input)
     if (!read_netpbm_header(file, name, '5', &width, &height))
         return false;
     if (width != input->width || height != input->height) {
-        complain("%s: %" PRIu64 " x %" PRIu64 " pixels, but the picture has %" PRIu64 " x %" PRIu64, name, width, height,
-                 input->width, input->height);
+        complain("%s: %" PRIu64 " x %" PRIu64 " pixels, but the picture has %" PRIu64 " x %" PRIu64, name,
+                 width, height, input->width, input->height);
         return false;
     }
     return read_netpbm_samples(file, name, (size_t)(width * height), &input->pinned);

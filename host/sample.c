@@ -1,5 +1,5 @@
-/* Writes a sample picture of 400 x 240 pixels to standard output, as a binary PPM: a sky and a lake with a sun, discs of
-   colour with soft shades, a strip of greys, and letters with hard edges. */
+/* Writes a sample picture of 400 x 240 pixels to standard output, as a binary PPM: a sky with a sun over a lake, balls
+   with soft shades, a strip of greys, and letters with hard edges. */
 #include <stdint.h>
 #include <stdio.h>
 
@@ -10,7 +10,8 @@ struct colour { double red, green, blue; };
 static struct colour mix(struct colour a, struct colour b, double t)
 {
     t = t < 0 ? 0 : t > 1 ? 1 : t;
-    return (struct colour){ a.red + t * (b.red - a.red), a.green + t * (b.green - a.green), a.blue + t * (b.blue - a.blue) };
+    return (struct colour){ .red = a.red + t * (b.red - a.red), .green = a.green + t * (b.green - a.green),
+                            .blue = a.blue + t * (b.blue - a.blue) };
 }
 
 /* Sky from blue to orange above row 150, a lake that mirrors it below. */
