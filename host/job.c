@@ -212,27 +212,35 @@ static bool run_workers(struct job *job, struct worker *workers, unsigned thread
     return started > 0 && !job->failed;
 }
 
-bool refine_shared(const struct input *input, unsigned threads, uint64_t seed, void (*pass_done)(const struct pass *),
-                   struct result *result)
+static bool run_job(struct job *job, unsigned threads, uint64_t seed)
 {
-    struct job job = { .input = input, .result = result, .pass_done = pass_done };
     struct worker *workers = allocate(threads, sizeof(struct worker));
-    bool done = false;
-    if (pthread_mutex_init(&job.lock, NULL) != 0 || pthread_cond_init(&job.phase_closed, NULL) != 0)
-        complain("no lock for the workers");
-    else
-        done = workers != NULL && open_job(&job) && choose_order(&job, seed) && prepare_workers(&job, workers, threads)
-            && run_workers(&job, workers, threads);
-    result->passes = job.record[DBS_PASSES_DONE];
-    result->initial_error = error_of_bits(job.record[DBS_INITIAL_ERROR]);
-    result->final_error = error_of_bits(job.record[DBS_FINAL_ERROR]);
+    bool done = workers != NULL && open_job(job) && choose_order(job, seed) && prepare_workers(job, workers, threads)
+        && run_workers(job, workers, threads);
     for (unsigned i = 0; workers != NULL && i < threads; i++) {
         free(workers[i].copy_cpe);
         free(workers[i].copy_indices);
     }
     free(workers);
-    free(job.order);
-    free(job.tile_states);
-    free(job.deltas);
+    free(job->order);
+    free(job->tile_states);
+    free(job->deltas);
+    return done;
+}
+
+bool refine_shared(const struct input *input, unsigned threads, uint64_t seed, void (*pass_done)(const struct pass *),
+                   struct result *result)
+{
+    struct job job = { .input = input, .result = result, .pass_done = pass_done };
+    if (pthread_mutex_init(&job.lock, NULL) != 0 || pthread_cond_init(&job.phase_closed, NULL) != 0) {
+        complain("no lock for the workers");
+        return false;
+    }
+    bool done = run_job(&job, threads, seed);
+    pthread_cond_destroy(&job.phase_closed);
+    pthread_mutex_destroy(&job.lock);
+    result->passes = job.record[DBS_PASSES_DONE];
+    result->initial_error = error_of_bits(job.record[DBS_INITIAL_ERROR]);
+    result->final_error = error_of_bits(job.record[DBS_FINAL_ERROR]);
     return done;
 }

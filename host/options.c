@@ -31,8 +31,8 @@ void print_usage(void)
           "  --measure           also print perceived_error of the start and of the result\n"
           "  --no-check          do not run dbs_refine to compare with\n"
           "  --help              print this\n"
-          "Exit status: 0 done; 1 the workers' result differs from dbs_refine's; 2 anything else that is\n"
-          "wrong. Outputs are written at the end, under temporary names that are then changed, if it is 0.\n",
+          "Exit status: 0 done; 1 the workers' result differs from dbs_refine's; 2 anything else. Output\n"
+          "files are only touched where it is 0.\n",
           stdout);
 }
 
