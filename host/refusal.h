@@ -5,8 +5,8 @@
 #include <stdbool.h>
 #include <stdint.h>
 
-/* False after a message with number, place and their meaning where a call was refused, else true. `width` is that
-   of the image, or of the copy, whose pixel a place may name. */
+/* False after a message with number, place and their meaning where a call was refused, else true. `width` is that of
+   the image whose pixel a place may name, or 0. */
 bool accepted(const char *call, uint64_t number, uint64_t place, uint64_t width);
 
 #endif
