@@ -1,11 +1,11 @@
 //! A job of the library, its tiles shared by threads.
 
 use std::sync::{Condvar, Mutex};
-use std::time::{Duration, Instant};
 
 use crate::image::Image;
 use crate::library::{dbs_close, dbs_open, dbs_put_back, dbs_take, dbs_work, Status};
 use crate::outcome::Outcome;
+use crate::times::Times;
 
 // Places in a job record.
 const LUMINANCE_RADIUS: usize = 3;
@@ -241,12 +241,17 @@ fn work(job: &Mutex<Job>, closed: &Condvar, fixed: &Fixed, copy: &mut Copy) {
     }
 }
 
-/// A job on the buffers of `result`, whose indices are the start. The times of open and of everything after it; the
+/// A job on the buffers of `result`, whose indices are the start, with the times of open and of everything after it. The
 /// workers' copies are allocated between the two.
-pub fn refine(image: &Image, max_passes: usize, threads: usize, result: &mut Outcome) -> [Duration; 2] {
-    let start = Instant::now();
-    let (record, tile_states, deltas) = open(image, max_passes, result);
-    let opened = start.elapsed();
+pub fn refine(
+    image: &Image,
+    max_passes: usize,
+    threads: usize,
+    result: &mut Outcome,
+    opens: &mut Times,
+    works: &mut Times,
+) {
+    let (record, tile_states, deltas) = opens.add(|| open(image, max_passes, result));
     let tiling = Tiling::new(image, record[LUMINANCE_RADIUS].max(record[CHROMINANCE_RADIUS]) as usize);
     let most = (tiling.side + 2 * tiling.margin).pow(2).min(image.indices.len());
     let mut copies: Vec<Copy> =
@@ -263,16 +268,15 @@ pub fn refine(image: &Image, max_passes: usize, threads: usize, result: &mut Out
         out: 0,
     });
     let closed = Condvar::new();
-    let start = Instant::now();
-    std::thread::scope(|scope| {
-        for copy in &mut copies {
-            scope.spawn(|| work(&job, &closed, &fixed, copy));
-        }
+    works.add(|| {
+        std::thread::scope(|scope| {
+            for copy in &mut copies {
+                scope.spawn(|| work(&job, &closed, &fixed, copy));
+            }
+        })
     });
-    let worked = start.elapsed();
     let record = job.into_inner().unwrap().record;
     result.passes = record[PASSES_DONE];
     result.initial_error = f64::from_bits(record[INITIAL_ERROR]);
     result.final_error = f64::from_bits(record[FINAL_ERROR]);
-    [opened, worked]
 }

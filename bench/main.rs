@@ -11,13 +11,14 @@ mod light_table;
 mod original;
 mod outcome;
 mod rust;
+mod times;
 
 use std::fs::read_to_string;
 use std::process::ExitCode;
-use std::time::Instant;
 
 use image::{image, Image};
 use outcome::Outcome;
+use times::Times;
 
 const MAX_PASSES: usize = 10;
 
@@ -62,35 +63,6 @@ fn machine() -> String {
     format!("Processor {}, {cores} cores, load {load}.", model.trim_start_matches([' ', '\t', ':']))
 }
 
-/// Times in milliseconds, one for each run.
-#[derive(Default)]
-struct Times(Vec<f64>);
-
-impl Times {
-    fn add<T>(&mut self, f: impl FnOnce() -> T) -> T {
-        let start = Instant::now();
-        let value = f();
-        self.0.push(start.elapsed().as_secs_f64() * 1e3);
-        value
-    }
-
-    fn median(&self) -> f64 {
-        let mut times = self.0.clone();
-        times.sort_by(f64::total_cmp);
-        let middle = times.len() / 2;
-        if times.len() % 2 == 1 {
-            times[middle]
-        } else {
-            (times[middle - 1] + times[middle]) / 2.0
-        }
-    }
-
-    /// Run by run.
-    fn less(&self, other: &Self) -> Self {
-        Self(self.0.iter().zip(&other.0).map(|(a, b)| a - b).collect())
-    }
-}
-
 /// Times of the parts of one implementation.
 #[derive(Default)]
 struct Parts {
@@ -124,7 +96,6 @@ fn print_parts(ppi: f64, runs: usize) {
     let image = image(800, 480, ppi);
     let mut lent = Outcome::new(&image, MAX_PASSES);
     let (mut ours, mut rusts, mut fresh) = (Parts::default(), Parts::default(), Times::default());
-    let mut opens = Times::default();
     let mut jobs = [1, 2].map(|threads| (threads, Times::default(), Times::default()));
     let mut passes = 0;
     for _ in 0..runs {
@@ -136,38 +107,36 @@ fn print_parts(ppi: f64, runs: usize) {
             outcome
         });
         report(found.difference(&expected));
-        for (threads, works, wholes) in &mut jobs {
+        for (threads, opens, works) in &mut jobs {
             lent.indices.copy_from_slice(&image.indices);
-            let [opened, worked] =
-                job::refine(&image, MAX_PASSES, *threads, &mut lent).map(|time| time.as_secs_f64() * 1e3);
-            opens.0.push(opened);
-            works.0.push(worked);
-            wholes.0.push(opened + worked);
+            job::refine(&image, MAX_PASSES, *threads, &mut lent, opens, works);
             report(lent.difference(&expected));
         }
     }
     println!("{}x{} pixels, {ppi} per inch, {passes} passes run; all bit-equal:\n", image.width, image.height);
-    println!("| part | library, ms | Rust, ms | library / Rust |\n|---|---|---|---|");
+    println!("| part | library, ms | Rust, ms | ratio | processor time: library, ms | Rust, ms | ratio |");
+    println!("|---|---|---|---|---|---|---|");
     let row = |name: &str, ours: &Times, rusts: &Times| {
         let (ours, rusts) = (ours.median(), rusts.median());
-        println!("| {name} | {ours:.0} | {rusts:.0} | {:.2} |", ours / rusts);
+        let cells = |ours: f64, rusts: f64| format!("{ours:.0} | {rusts:.0} | {:.2}", ours / rusts);
+        println!("| {name} | {} | {} |", cells(ours.clock, rusts.clock), cells(ours.processor, rusts.processor));
     };
     let rust_passes = rusts.whole.less(&rusts.build_up);
     row("build-up (0 passes allowed)", &ours.build_up, &rusts.build_up);
     row("passes (whole less build-up)", &ours.whole.less(&ours.build_up), &rust_passes);
     row("whole refine", &ours.whole, &rusts.whole);
     row("whole refine, buffers allocated within", &fresh, &rusts.whole);
-    row("job: open", &opens, &rusts.build_up);
-    for (threads, works, wholes) in &jobs {
+    row("job: open", &jobs[0].1, &rusts.build_up);
+    for (threads, opens, works) in &jobs {
         row(&format!("job, threads: {threads}; passes"), works, &rust_passes);
-        row(&format!("job, threads: {threads}; whole"), wholes, &rusts.whole);
+        row(&format!("job, threads: {threads}; whole"), &opens.plus(works), &rusts.whole);
     }
     row("perceived_error", &ours.measure, &rusts.measure);
     println!();
 }
 
 fn print_sizes(runs: usize) {
-    println!("Each cell: library / Rust.\n");
+    println!("Processor time. Each cell: library / Rust.\n");
     println!("| pixels | build-up, ms | passes, ms | whole refine, ms | whole, ns a pixel | perceived_error, ms |");
     println!("|---|---|---|---|---|---|");
     for (width, height) in [(200, 120), (400, 240), (800, 480), (1600, 960)] {
@@ -181,12 +150,12 @@ fn print_sizes(runs: usize) {
         let pixels = (width * height) as f64;
         println!(
             "| {width}x{height} | {} | {} | {} | {:.0} / {:.0} | {} |",
-            cell(|p| p.build_up.median()),
-            cell(|p| p.whole.less(&p.build_up).median()),
-            cell(|p| p.whole.median()),
-            ours.whole.median() * 1e6 / pixels,
-            rusts.whole.median() * 1e6 / pixels,
-            cell(|p| p.measure.median()),
+            cell(|p| p.build_up.median().processor),
+            cell(|p| p.whole.less(&p.build_up).median().processor),
+            cell(|p| p.whole.median().processor),
+            ours.whole.median().processor * 1e6 / pixels,
+            rusts.whole.median().processor * 1e6 / pixels,
+            cell(|p| p.measure.median().processor),
         );
     }
     println!("\nEvery run was bit-equal.");
