@@ -1,0 +1,51 @@
+/* Faults for host/test, linked with --wrap: of the calls of calloc, pthread_create or dbs_work the one fails, counted
+   from 1, that FAIL_CALLOC, FAIL_PTHREAD_CREATE or FAIL_DBS_WORK in the environment names. */
+#include <errno.h>
+#include <pthread.h>
+#include <stdatomic.h>
+#include <stdbool.h>
+#include <stdlib.h>
+
+#include "dbs.h"
+
+static bool fails(const char *variable, atomic_int *calls)
+{
+    const char *number = getenv(variable);
+    int call = atomic_fetch_add(calls, 1) + 1;
+    return number != NULL && atoi(number) == call;
+}
+
+void *__real_calloc(size_t count, size_t size);
+void *__wrap_calloc(size_t count, size_t size);
+
+void *__wrap_calloc(size_t count, size_t size)
+{
+    static atomic_int calls;
+    return fails("FAIL_CALLOC", &calls) ? NULL : __real_calloc(count, size);
+}
+
+int __real_pthread_create(pthread_t *thread, const pthread_attr_t *attributes, void *(*start)(void *), void *argument);
+int __wrap_pthread_create(pthread_t *thread, const pthread_attr_t *attributes, void *(*start)(void *), void *argument);
+
+int __wrap_pthread_create(pthread_t *thread, const pthread_attr_t *attributes, void *(*start)(void *), void *argument)
+{
+    static atomic_int calls;
+    return fails("FAIL_PTHREAD_CREATE", &calls) ? EAGAIN : __real_pthread_create(thread, attributes, start, argument);
+}
+
+#define WORK_ARGUMENTS                                                                                                \
+    const uint64_t *record, size_t record_len, uint64_t tile, const uint8_t *pinned, size_t pinned_len,              \
+        const double *cpp, size_t cpp_len, double *copy_cpe, size_t copy_cpe_len, dbs_index *copy_indices,           \
+        size_t copy_indices_len, const double *inks, size_t inks_len
+
+dbs_worked __real_dbs_work(WORK_ARGUMENTS);
+dbs_worked __wrap_dbs_work(WORK_ARGUMENTS);
+
+dbs_worked __wrap_dbs_work(WORK_ARGUMENTS)
+{
+    static atomic_int calls;
+    if (fails("FAIL_DBS_WORK", &calls))
+        return (dbs_worked){ .number = 13 };
+    return __real_dbs_work(record, record_len, tile, pinned, pinned_len, cpp, cpp_len, copy_cpe, copy_cpe_len,
+                           copy_indices, copy_indices_len, inks, inks_len);
+}
