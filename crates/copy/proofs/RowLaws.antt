@@ -14,27 +14,8 @@ use Rattle.base.specs.declared.Rect.{Rect}
 use Rattle.base.specs.Grid.{width, height, area, Inside, inside, Within, place, cell, crop, paste}
 use Rattle.base.proofs.GridLaws.{inside-is, inside-yes, widen, place-inj, ext-cell, cell-crop, length-paste, paste-in, paste-out}
 use Rattle.base.proofs.Bounds.{image-product}
-use Rattle.base.proofs.PartLaws.{get-part}
+use Rattle.base.proofs.PartLaws.{get-part, get-before, get-after}
 use Rattle.copy.specs.Part.{Holds}
-
--- ---- a value outside a part that was written
-
-module _ {A : Type 0} (d : A) (b n : ℕ) (xs t : List A) (in-list : b ≤ length xs) (long : length t ≡ n) where
-  pub get-before : (i : ℕ) → i < b → getD (putMid b n xs t) i d ≡ getD xs i d
-  get-before i h =
-      let e = length-take-le b xs in-list in
-      List·getD-append (take b xs) (t ++ postOf b n xs) d i (omega (arith, e)) ∙ getD-take b xs i d h
-
-  pub get-after : (i : ℕ) → b + n ≤ i → getD (putMid b n xs t) i d ≡ getD xs i d
-  get-after i h =
-      let m = i - (b + n) in
-      let e = length-take-le b xs in-list in
-      let at : i ≡ length (take b xs) + (length t + m) = omega (arith, e, long) in
-      let from : b + (n + m) ≡ i = omega arith in
-      ap (λ (j : ℕ). getD (putMid b n xs t) j d) at
-      ∙ getD-append-add (take b xs) (t ++ postOf b n xs) (length t + m) d
-      ∙ getD-append-add t (postOf b n xs) m d
-      ∙ getD-drop n (drop b xs) m d ∙ getD-drop b xs (n + m) d ∙ ap (λ (j : ℕ). getD xs j d) from
 
 -- ---- where a row stands
 

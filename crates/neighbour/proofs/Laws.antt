@@ -1,13 +1,12 @@
 -- Where the neighbours lie. Assumes nothing.
 use mathlib.Core.Path.{_≡_, sym, refl, ap, _∙_, subst}
-use mathlib.Core.Logic.{_⊎_, inl, inr, ⊎-elim}
+use mathlib.Core.Logic.{inl, inr, ⊎-elim}
 use Prim.Native.Nat.{ℕ, zero, suc, _≤_, _<_, _-_, _+_}
 use native.Mathlib.Nat.{add-zero}
 use native.Mathlib.Omega.{arith}
-use borrow.Author.Tests.{le-ltb, lt-ltb, ltb-true, ltb-false}
-use mathlib.Core.Bool.{Bool, true, false}
-use lib.Dec.{ltb}
+use borrow.Author.Tests.{le-ltb, lt-ltb}
 use lib.IntN.{ℤ, pos, negsuc}
+use Rattle.base.proofs.Bounds.{lt-or-ge}
 use Rattle.neighbour.specs.Neighbour.{Small, offsetOf, shiftedOf, joined, placed, neighbourOf}
 use Rattle.neighbour.specs.declared.Offset.{Offset}
 use Rattle.neighbour.specs.declared.Offset.the-variants.{By, Nothing}
@@ -15,13 +14,6 @@ use Rattle.neighbour.specs.declared.Shift.{Shift}
 use Rattle.neighbour.specs.declared.Shift.the-variants.{To, Out}
 use Rattle.neighbour.specs.declared.Adjacent.{Adjacent}
 use Rattle.neighbour.specs.declared.Adjacent.the-variants.{Pixel, Outside}
-
-by-flag : (a b : ℕ) (t : Bool) → ltb a b ≡ t → (a < b) ⊎ (b ≤ a)
-by-flag a b true e = inl (ltb-true a b e)
-by-flag a b false e = inr (ltb-false a b e)
-
-pub lt-or-ge : (a b : ℕ) → (a < b) ⊎ (b ≤ a)
-lt-or-ge a b = by-flag a b (ltb a b) refl
 
 pub stay : (v n : ℕ) → v < n → To v ≡ shiftedOf v (pos 0) n
 stay v n h = simp (add-zero, lt-ltb v n h)

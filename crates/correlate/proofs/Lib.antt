@@ -1,0 +1,4 @@
+pub mod TapLaws
+pub mod ChangedLaws
+pub mod RowLaws
+pub mod SpreadLaws

@@ -1,0 +1,67 @@
+-- `by_ones` meets its contract: after each turn the sums have the taps from `first` to d - 1. Assumes nothing.
+use native.Mathlib.Omega.{arith}
+use Prim.Native.Nat.{suc, _+_, _-_, _≤_}
+use native.Mathlib.Numerals.{add-one}
+use mathlib.Core.Path.{_≡_, sym, subst}
+use borrow.Author.Needs.{needs}
+use lib.ListN.{length}
+use Rattle.correlate.specs.Correlate.{at, tapSum, Changed, RowFits}
+use Rattle.correlate.proofs.TapLaws.{tap-none, tap-turn}
+use Rattle.correlate.proofs.ChangedLaws.{changed-idle, changed-then}
+use Rattle.correlate.proofs.by_ones.Statement.{statement}
+use Rattle.correlate.proofs.by_ones.Tie as tie
+
+abbrev Inv-loop : tie.InvT-loop
+Inv-loop sums₀ a b values taps lead first d₀ sums d = (first ≤ d) × (d ≤ length taps) × Changed a b (λ i. tapSum (at values) (at taps) (length values) lead i first d) sums₀ sums
+
+abbrev μ-loop : tie.MeasureT-loop
+μ-loop sums₀ a b values taps lead first d₀ sums d = length taps - d
+
+loop-holds : tie.Need-loop-holds Inv-loop μ-loop
+loop-holds c =
+    let s = c .before .before .before in
+    (omega arith, s .pre .0 .1, changed-idle _ _ _ _ (λ i low high t. tap-none (at (s .args .values .now)) (at (s .args .taps .now)) (length (s .args .values .now)) (s .args .lead) i (s .args .first) t))
+
+one-tap-requires : tie.Need-one-tap-requires Inv-loop μ-loop
+one-tap-requires c κs =
+    let s = c .before .before .before .before .before .before in
+    let h = c .before .before .loop .inv .2 .long in
+    ((omega (arith, s .pre .0 .0, h), c .before .loop-test .taken), subst (λ n. RowFits n (length (s .args .values .now)) (s .args .lead) (length (s .args .taps .now))) (sym h) (s .pre .1))
+
+add-d : tie.Need-add-d Inv-loop μ-loop
+add-d c = search needs
+
+loop-less : tie.Need-loop-less Inv-loop μ-loop
+loop-less c = search needs
+
+loop-again : tie.Need-loop-again Inv-loop μ-loop
+loop-again c =
+    let s = c .before .before .before .before .before .before .before .before .before in
+    let l = c .before .before .before .before .before .loop in
+    let next = add-one (l .d) in
+    (omega (arith, l .inv .0), omega (arith, c .before .before .before .before .loop-test .taken), rw next (changed-then _ _ _ _ _ _ _ _ (l .inv .2) (c .before .before .one-tap .ensures)
+    (λ i low high t. tap-turn (at (s .args .values .now)) (at (s .args .taps .now)) (length (s .args .values .now)) (s .args .lead) i (s .args .first) (l .d) t (l .inv .0))))
+
+same-length : tie.Need-same-length Inv-loop μ-loop
+same-length c = c .before .loop .inv .2 .long
+
+returns : tie.Need-returns Inv-loop μ-loop
+returns c =
+    let s = c .before .before .before .before .before in
+    let l = c .before .loop in
+    let e : l .d ≡ length (s .args .taps .now) = omega (arith, l .inv .1, c .loop-test .left) in
+    subst (λ d. Changed (s .args .a) (s .args .b) (λ i. tapSum (at (s .args .values .now)) (at (s .args .taps .now)) (length (s .args .values .now)) (s .args .lead) i (s .args .first) d) (s .args .sums .now) (l .sums)) e (l .inv .2)
+
+pub by-ones-spec : {M : Type 1} → statement M
+by-ones-spec =
+    tie.close
+    (tie.spec
+    Inv-loop
+    μ-loop
+    loop-holds
+    one-tap-requires
+    add-d
+    loop-less
+    loop-again
+    same-length
+    returns)
