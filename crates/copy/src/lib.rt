@@ -10,7 +10,7 @@ ghost use Rattle.base.specs.Grid.{area, place, crop, paste};
 ghost use Rattle.copy.specs.Part.{Holds};
 
 // Values of a row.
-fn copy_values(from: &[f64], to: &mut [f64])
+pub fn copy_values(from: &[f64], to: &mut [f64])
     requires { ⌜ length (now from) ≡ length (now to) ⌝ }
     ensures { λ _. ⌜ now (to .exit) ≡ now (from .entry) ⌝ }
 {

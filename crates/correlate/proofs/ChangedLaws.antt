@@ -49,8 +49,8 @@ changed-part a b lo hi f l t low order high room long new left right =
     let before : (i : ℕ) → i < lo → at (putMid lo (hi - lo) l t) i ≡ at l i = λ i u. get-before nan lo (hi - lo) l t in-list long i u in
     let after : (i : ℕ) → hi ≤ i → at (putMid lo (hi - lo) l t) i ≡ at l i = λ i u. get-after nan lo (hi - lo) l t in-list long i (omega (arith, u, order)) in
     let inner : (i : ℕ) → lo ≤ i → i < hi → at (putMid lo (hi - lo) l t) i ≡ f i (at l i) = λ i u v.
-        let e : lo + (i - lo) ≡ i = omega (arith, u) in
-        rw e at (get-part lo (hi - lo) l in-list nan t (i - lo) (omega (arith, long, u, v)) ∙ new (i - lo) (omega (arith, u, v)))
+    let e : lo + (i - lo) ≡ i = omega (arith, u) in
+    rw e at (get-part lo (hi - lo) l in-list nan t (i - lo) (omega (arith, long, u, v)) ∙ new (i - lo) (omega (arith, u, v)))
     in
     record {
       long = same-len-mid lo (hi - lo) l t (long ∙ sym (mid-len lo hi l room));

@@ -52,14 +52,14 @@ module _ (values taps : List Float) (lead : ℕ) where
   pub reach-none : (a b d lo hi : ℕ) (l : List Float) → lo ≡ max a (lead - d) → hi ≡ min b (lead + m - d) → hi ≤ lo → Changed a b (λ i. sum i d (suc d)) l l
   reach-none a b d lo hi l e f h =
       changed-idle a b (λ i. sum i d (suc d)) l (λ i low high s.
-          ⊎-elim
-          (λ u. tap-before (at values) (at taps) m lead i d d s u ∙ tap-none (at values) (at taps) m lead i d s)
-          (λ u. tap-past (at values) (at taps) m lead i d d s (⊎-elim
-              (λ v. absurd (omega (arith, e, f, h, low, high, u, v)))
-              (λ v. v)
-              (lt-or-ge (i + d) (lead + m)))
-          ∙ tap-none (at values) (at taps) m lead i d s)
-          (lt-or-ge (i + d) lead))
+      ⊎-elim
+      (λ u. tap-before (at values) (at taps) m lead i d d s u ∙ tap-none (at values) (at taps) m lead i d s)
+      (λ u. tap-past (at values) (at taps) m lead i d d s (⊎-elim
+      (λ v. absurd (omega (arith, e, f, h, low, high, u, v)))
+      (λ v. v)
+      (lt-or-ge (i + d) (lead + m)))
+      ∙ tap-none (at values) (at taps) m lead i d s)
+      (lt-or-ge (i + d) lead))
 
   -- tap d on the part of the sums that it reaches, which became t
   pub reach-some : (a b d lo hi : ℕ) (l t : List Float) → Reach a b m lead d lo hi → lo < hi → b ≤ length l →
@@ -72,13 +72,13 @@ module _ (values taps : List Float) (lead : ℕ) where
       changed-part a b lo hi (λ i. sum i d (suc d)) l t (r .left) (omega (arith, h)) (r .right) (omega (arith, r .right, room))
       (ap (λ (x : List Float). length x) e ∙ length-table _ _ ∙ long)
       (λ j q.
-          let f = oneTap (midOf lo n l) (midOf (lo + d - lead) (hi + d - lead - (lo + d - lead)) values) (at taps d) in
-          let span : j < hi + d - lead - (lo + d - lead) = omega (arith, q, r .first) in
-          let place : lo + d - lead + j ≡ lo + j + d - lead = omega (arith, r .first) in
-          let term : f j ≡ at l (lo + j) +f at taps d *f at values (lo + j + d - lead) = rw (at-mid lo n l j q, at-mid (lo + d - lead) (hi + d - lead - (lo + d - lead)) values j span, place) in
-          ap (λ (x : List Float). at x j) e ∙ getD-table _ f j nan (omega (arith, long, q)) ∙ term
-          ∙ sym (tap-more (at values) (at taps) m lead (lo + j) d d (at l (lo + j)) (omega arith) (omega (arith, r .first)) (omega (arith, r .last, q))
-          ∙ ap (λ (u : Float). u +f at taps d *f at values (lo + j + d - lead)) (tap-none (at values) (at taps) m lead (lo + j) d (at l (lo + j)))))
+      let f = oneTap (midOf lo n l) (midOf (lo + d - lead) (hi + d - lead - (lo + d - lead)) values) (at taps d) in
+      let span : j < hi + d - lead - (lo + d - lead) = omega (arith, q, r .first) in
+      let place : lo + d - lead + j ≡ lo + j + d - lead = omega (arith, r .first) in
+      let term : f j ≡ at l (lo + j) +f at taps d *f at values (lo + j + d - lead) = rw (at-mid lo n l j q, at-mid (lo + d - lead) (hi + d - lead - (lo + d - lead)) values j span, place) in
+      ap (λ (x : List Float). at x j) e ∙ getD-table _ f j nan (omega (arith, long, q)) ∙ term
+      ∙ sym (tap-more (at values) (at taps) m lead (lo + j) d d (at l (lo + j)) (omega arith) (omega (arith, r .first)) (omega (arith, r .last, q))
+      ∙ ap (λ (u : Float). u +f at taps d *f at values (lo + j + d - lead)) (tap-none (at values) (at taps) m lead (lo + j) d (at l (lo + j)))))
       (λ i low high s. tap-before (at values) (at taps) m lead i d d s (r .before i low high) ∙ tap-none (at values) (at taps) m lead i d s)
       (λ i low high s. tap-past (at values) (at taps) m lead i d d s (r .past i low high) ∙ tap-none (at values) (at taps) m lead i d s)
 
@@ -101,14 +101,14 @@ module _ (values taps : List Float) (lead : ℕ) where
       changed-part a b a b (four d) l t (omega arith) order (omega arith) room
       (ap (λ (x : List Float). length x) e ∙ length-table _ _ ∙ long)
       (λ j q.
-          let value : (k : ℕ) → k < 4 → at (midOf from span values) (j + k) ≡ at values (a + j + d - lead + k) = λ k h.
-              let place : from + (j + k) ≡ a + j + d - lead + k = omega (arith, inside) in
-              rw (← place) (at-mid from span values (j + k) (omega (arith, q, h, inside)))
-          in
-          let zero : j + 0 ≡ j = omega arith in
-          let zero′ : a + j + d - lead + 0 ≡ a + j + d - lead = omega arith in
-          let value0 : at (midOf from span values) j ≡ at values (a + j + d - lead) = rw (zero, zero′) at (value 0 (omega arith)) in
-          ap (λ (x : List Float). at x j) e ∙ getD-table _ f j nan (omega (arith, long, q))
-          ∙ rw (at-mid a n l j q, value0, value 1 (omega arith), value 2 (omega arith), value 3 (omega arith)))
+      let value : (k : ℕ) → k < 4 → at (midOf from span values) (j + k) ≡ at values (a + j + d - lead + k) = λ k h.
+      let place : from + (j + k) ≡ a + j + d - lead + k = omega (arith, inside) in
+      rw (← place) (at-mid from span values (j + k) (omega (arith, q, h, inside)))
+      in
+      let zero : j + 0 ≡ j = omega arith in
+      let zero′ : a + j + d - lead + 0 ≡ a + j + d - lead = omega arith in
+      let value0 : at (midOf from span values) j ≡ at values (a + j + d - lead) = rw (zero, zero′) at (value 0 (omega arith)) in
+      ap (λ (x : List Float). at x j) e ∙ getD-table _ f j nan (omega (arith, long, q))
+      ∙ rw (at-mid a n l j q, value0, value 1 (omega arith), value 2 (omega arith), value 3 (omega arith)))
       (λ i low high s. absurd (omega (arith, low, high)))
       (λ i low high s. absurd (omega (arith, low, high)))

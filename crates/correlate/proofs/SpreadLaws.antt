@@ -35,6 +35,12 @@ line-lt L y y′ h g = let m : L .step * suc y ≤ L .step * y′ = mul-le-mul-l
 pub spread-idle : (L : Lines) (a b : ℕ) (g : ℕ → ℕ → Float → Float) (l : List Float) → ((y x : ℕ) → a ≤ y → y < b → (s : Float) → g y x s ≡ s) → Spread L a b g l l
 spread-idle L a b g l e = record { long = refl; here = λ y x low high h. sym (e y x low high _); elsewhere = λ l x h o. refl }
 
+-- a change that is another in the rows
+pub spread-same : (L : Lines) (a b : ℕ) (g h : ℕ → ℕ → Float → Float) (l m : List Float) → Spread L a b g l m →
+    ((y x : ℕ) → a ≤ y → y < b → x < L .width → (s : Float) → g y x s ≡ h y x s) → Spread L a b h l m
+spread-same L a b g h l m p e =
+    record { long = p .long; here = λ y x low high c. p .here y x low high c ∙ e y x low high c (cellAt (L .width) l (lineOf L y) x); elsewhere = p .elsewhere }
+
 -- over one row more, whose line begins at value i
 pub spread-more : (L : Lines) (a y : ℕ) (g : ℕ → ℕ → Float → Float) (old l new : List Float) → 1 ≤ L .step → a ≤ y → Spread L a y g old l →
     (i : ℕ) → i ≡ lineOf L y * L .width → Changed i (i + L .width) (λ j. g y (j - i)) l new → Spread L a (y + 1) g old new
@@ -42,21 +48,21 @@ spread-more L a y g old l new step low p i start q =
     let n = L .width in
     let line = lineOf L y in
     let own : (x : ℕ) → x < n → cellAt n new line x ≡ g y x (cellAt n l line x) = λ x h.
-        q .here (line * n + x) (omega (arith, start)) (omega (arith, start, h)) ∙ ap (λ (k : ℕ). g y k (cellAt n l line x)) (omega (arith, start))
+    q .here (line * n + x) (omega (arith, start)) (omega (arith, start, h)) ∙ ap (λ (k : ℕ). g y k (cellAt n l line x)) (omega (arith, start))
     in
     let other : (k x : ℕ) → x < n → k ≢ line → cellAt n new k x ≡ cellAt n l k x = λ k x h o.
-        ⊎-elim
-        (λ u. q .before (k * n + x) (omega (arith, start, h, line-end n k line u)))
-        (λ u. q .after (k * n + x) (omega (arith, start, line-end n line k (omega (arith, u, o)))))
-        (lt-or-ge k line)
+    ⊎-elim
+    (λ u. q .before (k * n + x) (omega (arith, start, h, line-end n k line u)))
+    (λ u. q .after (k * n + x) (omega (arith, start, line-end n line k (omega (arith, u, o)))))
+    (lt-or-ge k line)
     in
     record {
       long = q .long ∙ p .long;
       here = λ y′ x u v h. ⊎-elim
           (λ w. other (lineOf L y′) x h (λ e. omega (arith, e, line-lt L y′ y step w)) ∙ p .here y′ x u w h)
           (λ w.
-              let e : y′ ≡ y = omega (arith, v, w) in
-              rw e (own x h ∙ ap (g y x) (p .elsewhere line x h (λ z r s f. omega (arith, f, line-lt L z y step s)))))
+          let e : y′ ≡ y = omega (arith, v, w) in
+          rw e (own x h ∙ ap (g y x) (p .elsewhere line x h (λ z r s f. omega (arith, f, line-lt L z y step s)))))
           (lt-or-ge y′ y);
       elsewhere = λ k x h o.
           other k x h (o y low (omega arith)) ∙ p .elsewhere k x h (λ z r s. o z r (omega (arith, s)));
@@ -71,10 +77,10 @@ pub spread-then : (L : Lines) (n a b : ℕ) (f g h : ℕ → ℕ → Float → F
 spread-then L n a b f g h l m o step most p q in-range before past =
     let w = L .width in
     let apart : (y z : ℕ) → y ≢ z → lineOf L y ≢ lineOf L z = λ y z d e.
-        ⊎-elim
-        (λ u. omega (arith, e, line-lt L y z step u))
-        (λ u. omega (arith, e, line-lt L z y step (omega (arith, u, d))))
-        (lt-or-ge y z)
+    ⊎-elim
+    (λ u. omega (arith, e, line-lt L y z step u))
+    (λ u. omega (arith, e, line-lt L z y step (omega (arith, u, d))))
+    (lt-or-ge y z)
     in
     record {
       long = q .long ∙ p .long;
@@ -105,11 +111,11 @@ module _ (values kernel : List Float) (lead : ℕ) where
       changed-part i (i + n) i (i + n) (λ j. tapSum (at values) (λ d. at kernel (from + d)) m lead (j - i) 0 size) l t (omega arith) (omega arith) (omega arith) room
       (c .long ∙ long)
       (λ j h.
-          let back : i + j - i ≡ j = omega arith in
-          c .here j (omega arith) (omega (arith, h, long))
-          ∙ ap (λ (k : ℕ). tapSum (at values) (at taps) m lead j 0 k (at part j)) taps-long
-          ∙ tap-same (at values) (at values) (at taps) (λ d. at kernel (from + d)) m lead j size (at part j) (λ k u. refl) (λ d u. at-mid from (from + size - from) kernel d (omega (arith, u)))
-          ∙ ap (tapSum (at values) (λ d. at kernel (from + d)) m lead j 0 size) (at-mid i (i + n - i) l j h)
-          ∙ ap (λ (k : ℕ). tapSum (at values) (λ d. at kernel (from + d)) m lead k 0 size (at l (i + j))) (sym back))
+      let back : i + j - i ≡ j = omega arith in
+      c .here j (omega arith) (omega (arith, h, long))
+      ∙ ap (λ (k : ℕ). tapSum (at values) (at taps) m lead j 0 k (at part j)) taps-long
+      ∙ tap-same (at values) (at values) (at taps) (λ d. at kernel (from + d)) m lead j size (at part j) (λ k u. refl) (λ d u. at-mid from (from + size - from) kernel d (omega (arith, u)))
+      ∙ ap (tapSum (at values) (λ d. at kernel (from + d)) m lead j 0 size) (at-mid i (i + n - i) l j h)
+      ∙ ap (λ (k : ℕ). tapSum (at values) (λ d. at kernel (from + d)) m lead k 0 size (at l (i + j))) (sym back))
       (λ j low high s. absurd (omega (arith, low, high)))
       (λ j low high s. absurd (omega (arith, low, high)))

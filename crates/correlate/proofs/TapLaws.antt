@@ -62,9 +62,9 @@ module _ (value tap : ℕ → Float) (m lead p : ℕ) where
   tap-four a d s h left right =
       let term : ℕ → Float → Float = λ q u. u +f tap (d + q) *f value (p + d - lead + q) in
       let turn : (q : ℕ) → q < 4 → sum a (d + suc q) s ≡ term q (sum a (d + q) s) = λ q l.
-          let e : p + (d + q) - lead ≡ p + d - lead + q = omega (arith, left) in
-          let next : d + suc q ≡ suc (d + q) = omega arith in
-          rw (next, ← e) (tap-more a (d + q) s (omega (arith, h)) (omega (arith, left)) (omega (arith, right, l)))
+      let e : p + (d + q) - lead ≡ p + d - lead + q = omega (arith, left) in
+      let next : d + suc q ≡ suc (d + q) = omega arith in
+      rw (next, ← e) (tap-more a (d + q) s (omega (arith, h)) (omega (arith, left)) (omega (arith, right, l)))
       in
       let none : d + 0 ≡ d = omega arith in
       let same : p + d - lead + 0 ≡ p + d - lead = omega arith in

@@ -3,6 +3,7 @@ use Prim.Native.Nat.{ℕ, zero, suc, _+_, _*_, _/_, _%_, _<_, _≤_}
 use native.Mathlib.Omega.{arith}
 use native.Mathlib.Nat.{mod-lt, div-lt-iff-lt-mul}
 use mathlib.Core.Path.{_≡_, refl}
+use mathlib.Core.Logic.{_≢_}
 use mathlib.Core.List.{List}
 use lib.ListN.{length}
 use lib.Ieee.{Float}
@@ -11,6 +12,8 @@ use Rattle.base.proofs.TableLaws.{length-table}
 use Rattle.color.specs.declared.YyCxCz.{YyCxCz}
 use Rattle.color.specs.Inks.{channel}
 use Rattle.tiling.specs.declared.Tiling.{Tiling}
+use Rattle.correlate.specs.Correlate.{cellAt}
+use Rattle.error.specs.Rows.{woven}
 use Rattle.error.specs.Error.{Scene, SceneFits, PixelFits, fieldAt, fieldValue, fieldOf}
 
 -- what is done to each of the three channels is done to channel c
@@ -20,6 +23,13 @@ unfolding channel
 channelwise f s a b zero = refl
 channelwise f s a b (suc zero) = refl
 channelwise f s a b (suc (suc c)) = refl
+
+-- a channel after the second is the last
+pub channel-last : (c : ℕ) (v : YyCxCz) → c ≢ 0 → c ≢ 1 → v .cz ≡ channel c v
+unfolding channel
+channel-last zero v p q = absurd (p refl)
+channel-last (suc zero) v p q = absurd (q refl)
+channel-last (suc (suc c)) v p q = refl
 
 -- a pixel of the image
 pub pixel-fits : (w h : ℕ) (G : Scene) (x y : ℕ) → SceneFits w h G → x < w → y < h → PixelFits w G x y
@@ -55,3 +65,13 @@ value-here T G cpp i y e c h =
 pub length-field : (T : Tiling) (G : Scene) (cpp : List Float) → length (fieldOf T G cpp) ≡ 3 * (T .height * T .width)
 unfolding fieldOf
 length-field T G cpp = length-table _ _
+
+-- ---- lines and rows of pixels
+
+-- channel c of pixel x of a row of pixels is value x of line c
+pub woven-here : (w : ℕ) (lines : List Float) (x c : ℕ) → c < 3 → cellAt w lines c x ≡ woven w lines (3 * x + c)
+unfolding woven
+woven-here w lines x c h =
+    let q : (3 * x + c) / 3 ≡ x = omega arith in
+    let r : (3 * x + c) % 3 ≡ c = omega arith in
+    rw (q, r)

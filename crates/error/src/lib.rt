@@ -1,17 +1,21 @@
 // The error of a halftone against its target, `cpe`, which is that error correlated with the kernels,
 // and the initial error: the first half of `dbs_refine` of dbs.rs, with `to_yycxcz` and `correlate`.
-// There is no list of errors: the error of a pixel is computed where it is asked for.
+// There is no list of errors: they are computed row by row, once for each channel.
 use color::YyCxCz;
+use correlate::Lines;
 use cpp::Kernel2D;
 use tiling::Tiling;
 ghost use mathlib.Core.Path.{_≡_};
 ghost use Prim.Native.Nat.{ℕ, _+_, _-_, _*_, _<_, _≤_, min};
 ghost use lib.ListN.{length};
+ghost use Rattle.base.specs.Loop.{table};
 ghost use Rattle.base.specs.F64.{_+f_, _*f_, f0};
 ghost use Rattle.color.specs.Lut.{srgbToLinear};
 ghost use Rattle.color.specs.Inks.{channel};
 ghost use Rattle.cpp.specs.Kernel.{KernelFits};
-ghost use Rattle.error.specs.Error.{scene, errorAt, correlateRow, correlateAt, fieldAt, fieldOf, initialError, SceneFits, PixelFits, FieldFits};
+ghost use Rattle.correlate.specs.Correlate.{Spread};
+ghost use Rattle.error.specs.Error.{scene, errorAt, correlateRow, fieldOf, initialError, SceneFits, PixelFits, FieldFits};
+ghost use Rattle.error.specs.Rows.{RowHolds, errorInRow, channelLines, correlateRows, woven, Woven};
 
 // Where three sums start.
 pub fn zero() -> YyCxCz
@@ -21,17 +25,6 @@ pub fn zero() -> YyCxCz
         yy: 0.0,
         cx: 0.0,
         cz: 0.0,
-    }
-}
-
-// Three sums grow by v times e, channel by channel.
-pub fn add_times(s: YyCxCz, v: f64, e: YyCxCz) -> YyCxCz
-    ensures { λ r. ⌜ ((c : ℕ) → channel c r ≡ channel c s +f v *f channel c e) ⌝ }
-{
-    YyCxCz {
-        yy: s.yy + v * e.yy,
-        cx: s.cx + v * e.cx,
-        cz: s.cz + v * e.cz,
     }
 }
 
@@ -72,59 +65,45 @@ pub fn error_at(
     color::less(ink, colour)
 }
 
-// The first column or row of the image within r of m.
-pub fn first_in(m: usize, r: usize) -> usize
-    ensures { λ q. ⌜ q ≡ m - r ⌝ }
+// Channel c of three values.
+fn channel_of(v: YyCxCz, c: usize) -> f64
+    ensures { λ r. ⌜ r ≡ channel c v ⌝ }
 {
-    if m < r { 0 } else { m - r }
-}
-
-// One past the last of those below end.
-pub fn past_in(m: usize, r: usize, end: usize) -> usize
-    requires { ⌜ (m ≤ 8192) × (r ≤ 32) ⌝ }
-    ensures { λ q. ⌜ q ≡ min end (m + r + 1) ⌝ }
-{
-    let e = m + r + 1;
-    if end < e { end } else { e }
-}
-
-// The terms of row v of `correlate` at (x, y), added to three sums.
-fn correlate_row(
-    lut: &[u64; 256],
-    pixels: &[u8],
-    indices: &[u8],
-    pinned: &[u8],
-    inks: &[f64],
-    cpp: &[f64],
-    k: Kernel2D,
-    t: Tiling,
-    x: usize,
-    y: usize,
-    v: usize,
-    sums: YyCxCz,
-) -> YyCxCz
-    requires { ⌜ now lut ≡ srgbToLinear ⌝ }
-    requires { ⌜ SceneFits (t .width) (t .height) (scene (now pixels) (now indices) (now pinned) (now inks)) ⌝ }
-    requires { ⌜ KernelFits k (now cpp) ⌝ }
-    requires { ⌜ (x < t .width) × (y < t .height) ⌝ }
-    requires { ⌜ (y - k .radius ≤ v) × (v < min (t .height) (y + k .radius + 1)) ⌝ }
-    ensures { λ r. ⌜ ((c : ℕ) → channel c r ≡ correlateRow (t .width) (scene (now (pixels .entry)) (now (indices .entry)) (now (pinned .entry)) (now (inks .entry))) (now (cpp .entry)) k x y c v (channel c sums)) ⌝ }
-{
-    let r = k.radius;
-    let width = t.width;
-    let end = past_in(x, r, width);
-    let mut s = sums;
-    let mut u = first_in(x, r);
-    while u < end {
-        let e = error_at(lut, pixels, indices, pinned, inks, width, u, v);
-        s = add_times(s, cpp::kernel_at(cpp, k, u + r - x, v + r - y), e);
-        u += 1;
+    if c == 0 {
+        return v.yy;
     }
-    s
+    if c == 1 {
+        return v.cx;
+    }
+    v.cz
 }
 
-// `correlate` at (x, y), for all three channels.
-fn correlate(
+// Channel c of the errors in row y, from column x on.
+pub fn channel_errors(
+    lut: &[u64; 256],
+    pixels: &[u8],
+    indices: &[u8],
+    pinned: &[u8],
+    inks: &[f64],
+    width: usize,
+    c: usize,
+    x: usize,
+    y: usize,
+    line: &mut [f64],
+)
+    requires { ⌜ now lut ≡ srgbToLinear ⌝ }
+    requires { ⌜ RowHolds width (scene (now pixels) (now indices) (now pinned) (now inks)) x y (length (now line)) ⌝ }
+    ensures { λ _. ⌜ now (line .exit) ≡ table (length (now (line .entry))) (errorInRow width (scene (now (pixels .entry)) (now (indices .entry)) (now (pinned .entry)) (now (inks .entry))) c x y) ⌝ }
+{
+    for i in 0..line.len() {
+        let e = error_at(lut, pixels, indices, pinned, inks, width, x + i, y);
+        line[i] = channel_of(e, c);
+    }
+}
+
+// `correlate` is worked out row by row of the error, into lines: line 3y + c of `cpe` is channel c of
+// row y. What row v of the error adds to channel c.
+fn add_row(
     lut: &[u64; 256],
     pixels: &[u8],
     indices: &[u8],
@@ -133,28 +112,124 @@ fn correlate(
     cpp: &[f64],
     k: Kernel2D,
     t: Tiling,
-    x: usize,
-    y: usize,
-) -> YyCxCz
+    c: usize,
+    v: usize,
+    line: &mut [f64],
+    cpe: &mut [f64],
+)
     requires { ⌜ now lut ≡ srgbToLinear ⌝ }
     requires { ⌜ SceneFits (t .width) (t .height) (scene (now pixels) (now indices) (now pinned) (now inks)) ⌝ }
     requires { ⌜ KernelFits k (now cpp) ⌝ }
-    requires { ⌜ (x < t .width) × (y < t .height) ⌝ }
-    ensures { λ r. ⌜ ((c : ℕ) → channel c r ≡ correlateAt (t .width) (scene (now (pixels .entry)) (now (indices .entry)) (now (pinned .entry)) (now (inks .entry))) (now (cpp .entry)) k x y c (t .height)) ⌝ }
+    requires { ⌜ (c < 3) × (v < t .height) ⌝ }
+    requires { ⌜ (length (now line) ≡ t .width) × (length (now cpe) ≡ 3 * (t .height * t .width)) ⌝ }
+    ensures { λ _. ⌜ Spread (channelLines (t .width) c) (v - k .radius) (min (t .height) (v + k .radius + 1)) (λ y x. correlateRow (t .width) (scene (now (pixels .entry)) (now (indices .entry)) (now (pinned .entry)) (now (inks .entry))) (now (cpp .entry)) k x y c v) (now (cpe .entry)) (now (cpe .exit)) ⌝ }
 {
+    channel_errors(lut, pixels, indices, pinned, inks, t.width, c, 0, v, line);
     let r = k.radius;
-    let end = past_in(y, r, t.height);
-    let mut s = zero();
-    let mut v = first_in(y, r);
-    while v < end {
-        s = correlate_row(lut, pixels, indices, pinned, inks, cpp, k, t, x, y, v, s);
+    let l = Lines {
+        width: t.width,
+        first: c,
+        step: 3,
+    };
+    let size = 2 * r + 1;
+    let from = k.from;
+    let to = from + size * size;
+    correlate::spread(
+        cpe,
+        l,
+        correlate::cut(v, r),
+        correlate::smaller(t.height, v + r + 1),
+        line,
+        &cpp[from..to],
+        size,
+        v + r,
+        r,
+    );
+}
+
+// Channel c of `correlate`, added to its lines.
+fn correlate_channel(
+    lut: &[u64; 256],
+    pixels: &[u8],
+    indices: &[u8],
+    pinned: &[u8],
+    inks: &[f64],
+    cpp: &[f64],
+    k: Kernel2D,
+    t: Tiling,
+    c: usize,
+    line: &mut [f64],
+    cpe: &mut [f64],
+)
+    requires { ⌜ now lut ≡ srgbToLinear ⌝ }
+    requires { ⌜ SceneFits (t .width) (t .height) (scene (now pixels) (now indices) (now pinned) (now inks)) ⌝ }
+    requires { ⌜ KernelFits k (now cpp) ⌝ }
+    requires { ⌜ c < 3 ⌝ }
+    requires { ⌜ (length (now line) ≡ t .width) × (length (now cpe) ≡ 3 * (t .height * t .width)) ⌝ }
+    ensures { λ _. ⌜ Spread (channelLines (t .width) c) 0 (t .height) (λ y x. correlateRows (t .width) (scene (now (pixels .entry)) (now (indices .entry)) (now (pinned .entry)) (now (inks .entry))) (now (cpp .entry)) k c (t .height) y x) (now (cpe .entry)) (now (cpe .exit)) ⌝ }
+{
+    let mut v = 0;
+    while v < t.height {
+        add_row(
+            lut,
+            pixels,
+            indices,
+            pinned,
+            inks,
+            cpp,
+            k,
+            t,
+            c,
+            v,
+            line,
+            cpe,
+        );
         v += 1;
     }
-    s
 }
 
-// The field at (x, y): Yy by the luminance kernel, Cx and Cz by the chrominance kernel.
-fn field_at(
+fn fill_zero(list: &mut [f64])
+    ensures { λ _. ⌜ now (list .exit) ≡ table (length (now (list .entry))) (λ i. f0) ⌝ }
+{
+    for i in 0..list.len() {
+        list[i] = 0.0;
+    }
+}
+
+// Three lines of w values as one row of pixels, three values a pixel.
+fn weave(row: &mut [f64], lines: &[f64], w: usize)
+    requires { ⌜ (length (now row) ≡ 3 * w) × (length (now lines) ≡ 3 * w) × (w ≤ 4096) ⌝ }
+    ensures { λ _. ⌜ now (row .exit) ≡ table (3 * w) (woven w (now (lines .entry))) ⌝ }
+{
+    let mut x = 0;
+    while x < w {
+        let j = 3 * x;
+        row[j] = lines[x];
+        row[j + 1] = lines[w + x];
+        row[j + 2] = lines[w + w + x];
+        x += 1;
+    }
+}
+
+// The lines of each row of `cpe` as a row of pixels. `lines` is for a copy of a row's lines.
+fn weave_rows(cpe: &mut [f64], t: Tiling, lines: &mut [f64])
+    requires { ⌜ (1 ≤ t .width) × (t .width ≤ 4096) × (t .height ≤ 4096) ⌝ }
+    requires { ⌜ (length (now lines) ≡ 3 * t .width) × (length (now cpe) ≡ 3 * (t .height * t .width)) ⌝ }
+    ensures { λ _. ⌜ Woven (t .width) (t .height) (now (cpe .entry)) (now (cpe .exit)) ⌝ }
+{
+    let w = t.width;
+    let n = 3 * w;
+    let mut y = 0;
+    while y < t.height {
+        let at = y * n;
+        copy::copy_values(&cpe[at..at + n], lines);
+        weave(&mut cpe[at..at + n], lines, w);
+        y += 1;
+    }
+}
+
+// The field, with room lent for a line and for the lines of a row.
+fn field_by_lines(
     lut: &[u64; 256],
     pixels: &[u8],
     indices: &[u8],
@@ -162,43 +237,59 @@ fn field_at(
     inks: &[f64],
     cpp: &[f64],
     t: Tiling,
-    x: usize,
-    y: usize,
-) -> YyCxCz
+    line: &mut [f64],
+    lines: &mut [f64],
+    cpe: &mut [f64],
+)
     requires { ⌜ now lut ≡ srgbToLinear ⌝ }
     requires { ⌜ FieldFits t (scene (now pixels) (now indices) (now pinned) (now inks)) (now cpp) ⌝ }
-    requires { ⌜ (x < t .width) × (y < t .height) ⌝ }
-    ensures { λ r. ⌜ ((c : ℕ) → channel c r ≡ fieldAt t (scene (now (pixels .entry)) (now (indices .entry)) (now (pinned .entry)) (now (inks .entry))) (now (cpp .entry)) x y c) ⌝ }
+    requires { ⌜ length (now cpe) ≡ 3 * (t .height * t .width) ⌝ }
+    requires { ⌜ (length (now line) ≡ t .width) × (length (now lines) ≡ 3 * t .width) ⌝ }
+    ensures { λ _. ⌜ now (cpe .exit) ≡ fieldOf t (scene (now (pixels .entry)) (now (indices .entry)) (now (pinned .entry)) (now (inks .entry))) (now (cpp .entry)) ⌝ }
 {
-    let lum = correlate(
+    let lum = cpp::lum_kernel(t);
+    let chroma = cpp::chroma_kernel(t);
+    fill_zero(cpe);
+    correlate_channel(
         lut,
         pixels,
         indices,
         pinned,
         inks,
         cpp,
-        cpp::lum_kernel(t),
+        lum,
         t,
-        x,
-        y,
+        0,
+        line,
+        cpe,
     );
-    let chroma = correlate(
+    correlate_channel(
         lut,
         pixels,
         indices,
         pinned,
         inks,
         cpp,
-        cpp::chroma_kernel(t),
+        chroma,
         t,
-        x,
-        y,
+        1,
+        line,
+        cpe,
     );
-    YyCxCz {
-        yy: lum.yy,
-        cx: chroma.cx,
-        cz: chroma.cz,
-    }
+    correlate_channel(
+        lut,
+        pixels,
+        indices,
+        pinned,
+        inks,
+        cpp,
+        chroma,
+        t,
+        2,
+        line,
+        cpe,
+    );
+    weave_rows(cpe, t, lines);
 }
 
 // The initial `cpe`, three values a pixel: document 01's field.
@@ -217,27 +308,22 @@ pub fn initial_field(
     requires { ⌜ length (now cpe) ≡ 3 * (t .height * t .width) ⌝ }
     ensures { λ _. ⌜ now (cpe .exit) ≡ fieldOf t (scene (now (pixels .entry)) (now (indices .entry)) (now (pinned .entry)) (now (inks .entry))) (now (cpp .entry)) ⌝ }
 {
-    let width = t.width;
-    let n = t.height * width;
-    let mut i = 0;
-    while i < n {
-        let c = field_at(
-            lut,
-            pixels,
-            indices,
-            pinned,
-            inks,
-            cpp,
-            t,
-            i % width,
-            i / width,
-        );
-        let j = 3 * i;
-        cpe[j] = c.yy;
-        cpe[j + 1] = c.cx;
-        cpe[j + 2] = c.cz;
-        i += 1;
-    }
+    let w = t.width;
+    let n = 3 * w;
+    let mut line = [0.0f64; 4096];
+    let mut lines = [0.0f64; 12288];
+    field_by_lines(
+        lut,
+        pixels,
+        indices,
+        pinned,
+        inks,
+        cpp,
+        t,
+        &mut line[..w],
+        &mut lines[..n],
+        cpe,
+    );
 }
 
 // The error of the starting halftone, given `cpe`.

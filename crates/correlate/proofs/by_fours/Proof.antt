@@ -118,10 +118,12 @@ loop-again : tie.Need-loop-again Inv-loop μ-loop
 loop-again c =
     let s = c .before .before .before .before .before .before .before .before .before .before .before .before .before .before in
     let l = c .before .before .before .before .before .before .before .before .before .before .loop in
-    let fits : s .args .b + l .d + 3 ≤ s .args .lead + length (s .args .values .now) = omega (arith, s .pre .1 .1 .1, c .before .before .before .before .before .before .before .before .before .loop-test .taken) in
-    (omega (arith, c .before .before .before .before .before .before .before .before .before .loop-test .taken), changed-then _ _ _ _ _ _ _ _ (l .inv .1)
-    (four-some (s .args .values .now) (s .args .taps .now) (s .args .lead) (s .args .a) (s .args .b) (l .d) (l .sums) (c .before .before .add-four-taps .last .0) (s .pre .0 .0) (omega (arith, s .pre .0 .1, l .inv .1 .long)) (s .pre .1 .1 .0) fits (c .before .before .add-four-taps .ensures))
-    (λ i low high t. sym (tap-four (at (s .args .values .now)) (at (s .args .taps .now)) (length (s .args .values .now)) (s .args .lead) i 0 (l .d) t (omega arith) (omega (arith, low, s .pre .1 .1 .0)) (omega (arith, high, fits)))))
+    let fits : s .args .b + l .d + 3 ≤ s .args .lead + length (s .args .values .now) = omega (arith, s .pre .1 .1 .1, c .before .before .before .before .before .before .before .before .before .loop-test .taken) in (
+      omega (arith, c .before .before .before .before .before .before .before .before .before .loop-test .taken),
+      changed-then _ _ _ _ _ _ _ _ (l .inv .1)
+          (four-some (s .args .values .now) (s .args .taps .now) (s .args .lead) (s .args .a) (s .args .b) (l .d) (l .sums) (c .before .before .add-four-taps .last .0) (s .pre .0 .0) (omega (arith, s .pre .0 .1, l .inv .1 .long)) (s .pre .1 .1 .0) fits (c .before .before .add-four-taps .ensures))
+          (λ i low high t. sym (tap-four (at (s .args .values .now)) (at (s .args .taps .now)) (length (s .args .values .now)) (s .args .lead) i 0 (l .d) t (omega arith) (omega (arith, low, s .pre .1 .1 .0)) (omega (arith, high, fits)))),
+    )
 
 same-length : tie.Need-same-length Inv-loop μ-loop
 same-length c = c .before .loop .inv .1 .long

@@ -38,9 +38,12 @@ loop-again : tie.Need-loop-again Inv-loop μ-loop
 loop-again c =
     let s = c .before .before .before .before .before .before .before .before .before in
     let l = c .before .before .before .before .before .loop in
-    let next = add-one (l .d) in
-    (omega (arith, l .inv .0), omega (arith, c .before .before .before .before .loop-test .taken), rw next (changed-then _ _ _ _ _ _ _ _ (l .inv .2) (c .before .before .one-tap .ensures)
-    (λ i low high t. tap-turn (at (s .args .values .now)) (at (s .args .taps .now)) (length (s .args .values .now)) (s .args .lead) i (s .args .first) (l .d) t (l .inv .0))))
+    let next = add-one (l .d) in (
+      omega (arith, l .inv .0),
+      omega (arith, c .before .before .before .before .loop-test .taken),
+      rw next (changed-then _ _ _ _ _ _ _ _ (l .inv .2) (c .before .before .one-tap .ensures)
+          (λ i low high t. tap-turn (at (s .args .values .now)) (at (s .args .taps .now)) (length (s .args .values .now)) (s .args .lead) i (s .args .first) (l .d) t (l .inv .0))),
+    )
 
 same-length : tie.Need-same-length Inv-loop μ-loop
 same-length c = c .before .loop .inv .2 .long

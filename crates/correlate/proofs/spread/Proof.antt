@@ -97,10 +97,13 @@ loop-again : tie.Need-loop-again Inv-loop μ-loop
 unfolding rowTaps
 loop-again c =
     let s = c .before .before .before .before .before .before .before .before .before .before .before in
-    let l = c .before .before .before .before .before .before .before .loop in
-    (refl, omega (arith, l .inv .1), omega (arith, c .before .before .before .before .before .before .loop-test .taken),
-    spread-more (s .args .l) (s .args .a) (l .y) (rowTaps (s .args .values .now) (s .args .kernel .now) (s .args .size) (s .args .top) (s .args .lead)) _ (l .lines) _ (s .pre .0 .apart) (l .inv .1) (l .inv .3) (c .before .before .before .before .before .line-start .result) (c .before .before .before .before .before .line-start .ensures)
-    (line-made (s .args .values .now) (s .args .kernel .now) (s .args .lead) (c .before .before .before .before .before .line-start .result) (s .args .l .width) ((s .args .top - l .y) * s .args .size) (s .args .size) (l .lines) (c .before .before .correlate-row .last .0) (line-room (c .before .before .before .before .before) .0) (taps-room (c .before .before .before .before .before) .1) (c .before .before .correlate-row .ensures)))
+    let l = c .before .before .before .before .before .before .before .loop in (
+      refl,
+      omega (arith, l .inv .1),
+      omega (arith, c .before .before .before .before .before .before .loop-test .taken),
+      spread-more (s .args .l) (s .args .a) (l .y) (rowTaps (s .args .values .now) (s .args .kernel .now) (s .args .size) (s .args .top) (s .args .lead)) _ (l .lines) _ (s .pre .0 .apart) (l .inv .1) (l .inv .3) (c .before .before .before .before .before .line-start .result) (c .before .before .before .before .before .line-start .ensures)
+          (line-made (s .args .values .now) (s .args .kernel .now) (s .args .lead) (c .before .before .before .before .before .line-start .result) (s .args .l .width) ((s .args .top - l .y) * s .args .size) (s .args .size) (l .lines) (c .before .before .correlate-row .last .0) (line-room (c .before .before .before .before .before) .0) (taps-room (c .before .before .before .before .before) .1) (c .before .before .correlate-row .ensures)),
+    )
 
 same-length : tie.Need-same-length Inv-loop μ-loop
 same-length c = c .before .loop .inv .3 .long
