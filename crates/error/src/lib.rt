@@ -188,7 +188,7 @@ fn correlate_channel(
     }
 }
 
-fn fill_zero(list: &mut [f64])
+pub fn fill_zero(list: &mut [f64])
     ensures { λ _. ⌜ now (list .exit) ≡ table (length (now (list .entry))) (λ i. f0) ⌝ }
 {
     for i in 0..list.len() {

@@ -1,23 +1,31 @@
 -- `measure::perceived` meets its contract: each channel comes of its own blur, and the mask is empty. Assumes nothing.
-use borrow.Author.Needs.{needs}
-use Rattle.color.specs.Inks.{channel}
 use Rattle.measure.specs.Measure.{perceivedOf}
+use borrow.Author.Needs.{needs}
 use Rattle.measure.proofs.perceived.Statement.{statement}
 use Rattle.measure.proofs.perceived.Tie as tie
 
 slice-aggregate-none : tie.Need-slice-aggregate-none
 slice-aggregate-none c = search needs
 
-blur-error-requires : tie.Need-blur-error-requires
-blur-error-requires c κs = search needs
+channel-error-requires : tie.Need-channel-error-requires
+channel-error-requires c κs = search needs
 
-blur-error-requires-2 : tie.Need-blur-error-requires-2
-blur-error-requires-2 c κs = search needs
+channel-error-requires-2 : tie.Need-channel-error-requires-2
+channel-error-requires-2 c κs = search needs
+
+channel-error-requires-3 : tie.Need-channel-error-requires-3
+channel-error-requires-3 c κs = search needs
 
 returns : tie.Need-returns
-unfolding perceivedOf channel
-returns c = rw (c .before .before .before .before .blur-error .ensures 0, c .before .before .before .blur-error2 .ensures 1, c .before .before .before .blur-error2 .ensures 2)
+unfolding perceivedOf
+returns c = rw (c .before .before .channel-error .ensures, c .before .channel-error2 .ensures, c .channel-error3 .ensures)
 
 pub perceived-spec : {M : Type 1} → statement M
 perceived-spec =
-    tie.close (tie.spec slice-aggregate-none blur-error-requires blur-error-requires-2 returns)
+    tie.close
+    (tie.spec
+    slice-aggregate-none
+    channel-error-requires
+    channel-error-requires-2
+    channel-error-requires-3
+    returns)
