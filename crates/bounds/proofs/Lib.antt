@@ -1,0 +1,4 @@
+pub mod Rounding
+pub mod Within
+pub mod Sums
+pub mod Bits
