@@ -3,7 +3,7 @@ use Prim.Native.Nat.{ℕ, zero, suc, _+_, _-_, _*_, _^_, _≤_, _<_}
 use mathlib.Core.Path.{_≡_, refl, sym, ap, _∙_, subst}
 use mathlib.Core.Bool.{Bool, true, false, cond, _||_, _&&_, true≢false}
 use mathlib.Core.Logic.{_⊎_, inl, inr}
-use native.Mathlib.Nat.{le-trans, le-of-eq, le-of-lt, mul-one, mul-comm, mul-assoc, mul-left-comm, mul-right-comm, mul-le-mul-right, le-of-mul-le-mul-right, lt-of-lt-of-le, zero-lt-suc, lt-of-le-of-lt}
+use native.Mathlib.Nat.{le-trans, le-of-eq, le-of-lt, mul-one, one-mul, mul-comm, mul-assoc, mul-left-comm, mul-right-comm, mul-le-mul-right, le-of-mul-le-mul-right, lt-of-lt-of-le, zero-lt-suc, mul-pos}
 use native.Mathlib.Omega.{arith}
 use lib.Dec.{T, ltb, eqb, ltb→lt, eqb→eq, lit≤}
 use lib.Pow.{pow-add, pow-pos, pow-mono, shl-lt}
@@ -12,7 +12,7 @@ use lib.Ieee.Fits.{down-pos, round-is, and-l}
 use lib.Ieee.Exact.{HasValue, round-exact, units-val}
 use lib.Ieee.Order.{round-mono, drop, kept}
 use lib.Ieee.Scale.{grid, overflow, round-val}
-use Rattle.bounds.specs.Bound.{Sized, countLimit, exponentLimit}
+use Rattle.bounds.specs.Bound.{Sized, Ranged, Least, countLimit, exponentLimit}
 
 -- ---- the bound is a float
 
@@ -66,21 +66,75 @@ of-le (fin false m e) (fin false p d) g l n L t v w = scaled (m * up e) (p * up 
         (le-trans (mul-le-mul-right l h) (le-of-eq (ap (λ (z : ℕ). z * de * l) w ∙ simp (mul-assoc, mul-comm, mul-left-comm)))) in
         le-of-mul-le-mul-right (le-of-mul-le-mul-right a D) E
 
--- ---- rounding, with either sign
+-- ---- rounding keeps it, with either sign
 
-sized-of : (x : Float) (s : Bool) (g l n : ℕ) → 0 < l → HasValue x s g l → g ≤ n * l → Sized n x
-sized-of nan s g l n L v h = v
-sized-of (inf t) s g l n L v h = v
-sized-of (fin t m e) s g l n L v h =
-    le-of-mul-le-mul-right (le-trans (le-of-eq (v .1)) (le-trans (mul-le-mul-right (down e) h) (le-of-eq (mul-right-comm n l (down e))))) L
+-- the rounded value as a fraction of the format's smallest value
+pub record Rounded (s : Bool) (a c n : ℕ) : Type 0 where
+  pub units : ℕ
+  pub value : HasValue (round binary64 s a c) s units (2 ^ 1074)
+  pub most : units ≤ n * 2 ^ 1074
 
-pub round-sized : (b k : ℕ) (s : Bool) (a c : ℕ) → k < countLimit → b ≤ exponentLimit → 0 < c → a ≤ k * 2 ^ b * c → Sized (k * 2 ^ b) (round binary64 s a c)
-round-sized b k s a c K B C h =
+pub rounded : (b k : ℕ) (s : Bool) (a c : ℕ) → k < countLimit → b ≤ exponentLimit → 0 < c → a ≤ k * 2 ^ b * c → Rounded s a c (k * 2 ^ b)
+rounded b k s a c K B C h =
     let top = bound-exact b k K B in
     let p = kept 53 (a * 2 ^ 1074) c in
     let d = drop 53 (a * 2 ^ 1074) c in
     let t : T (le (round binary64 false a c) (round binary64 false (k * 2 ^ b) 1)) = round-mono binary64 a c (k * 2 ^ b) 1 C (zero-lt-suc 0) (le-trans (le-of-eq (mul-one a)) h) in
     let less : p * 2 ^ d < overflow binary64 = under p d _ (k * 2 ^ b) 1 (subst (λ (z : Float). T (le z (round binary64 false (k * 2 ^ b) 1))) (round-is binary64 false a c) t) top in
-    let g : p * 2 ^ d ≤ k * 2 ^ b * 2 ^ 1074 = of-le (round binary64 false a c) (round binary64 false (k * 2 ^ b) 1) (p * 2 ^ d) (2 ^ 1074) (k * 2 ^ b) (pow-pos 1074) t (round-val binary64 a c less) top in
-    subst (Sized (k * 2 ^ b)) (sym (round-is binary64 s a c))
-    (sized-of (units binary64 s p d) s (p * 2 ^ d) (2 ^ 1074) (k * 2 ^ b) (pow-pos 1074) (units-val binary64 s p d less) g)
+    record {
+      units = p * 2 ^ d;
+      value = subst (λ (z : Float). HasValue z s (p * 2 ^ d) (2 ^ 1074)) (sym (round-is binary64 s a c)) (units-val binary64 s p d less);
+      most = of-le (round binary64 false a c) (round binary64 false (k * 2 ^ b) 1) (p * 2 ^ d) (2 ^ 1074) (k * 2 ^ b) (pow-pos 1074) t (round-val binary64 a c less) top;
+    }
+
+ranged-of : (x : Float) (s : Bool) (g l n : ℕ) → 0 < l → HasValue x s g l → g ≤ n * l → Ranged s n x
+ranged-of nan s g l n L v h = v
+ranged-of (inf t) s g l n L v h = v
+ranged-of (fin t m e) s g l n L v h =
+    (v .0, le-of-mul-le-mul-right (le-trans (le-of-eq (v .1)) (le-trans (mul-le-mul-right (down e) h) (le-of-eq (mul-right-comm n l (down e))))) L)
+
+pub ranged-sized : (s : Bool) (n : ℕ) (x : Float) → Ranged s n x → Sized n x
+ranged-sized s n nan r = r
+ranged-sized s n (inf t) r = r
+ranged-sized s n (fin t m e) r = r .1
+
+pub round-ranged : (b k : ℕ) (s : Bool) (a c : ℕ) → k < countLimit → b ≤ exponentLimit → 0 < c → a ≤ k * 2 ^ b * c → Ranged s (k * 2 ^ b) (round binary64 s a c)
+round-ranged b k s a c K B C h = let r = rounded b k s a c K B C h in ranged-of (round binary64 s a c) s (r .units) (2 ^ 1074) (k * 2 ^ b) (pow-pos 1074) (r .value) (r .most)
+
+pub round-sized : (b k : ℕ) (s : Bool) (a c : ℕ) → k < countLimit → b ≤ exponentLimit → 0 < c → a ≤ k * 2 ^ b * c → Sized (k * 2 ^ b) (round binary64 s a c)
+round-sized b k s a c K B C h = ranged-sized s (k * 2 ^ b) (round binary64 s a c) (round-ranged b k s a c K B C h)
+
+-- ---- what is at least 1 stays so: 1 is a float
+
+least-of : (x : Float) (g l : ℕ) → 0 < l → HasValue x false g l → l ≤ g → Least 1 1 x
+least-of nan g l L v h = v
+least-of (inf t) g l L v h = v
+least-of (fin t m e) g l L v h =
+    (v .0, le-of-mul-le-mul-right (le-trans (le-of-eq (simp (one-mul, mul-comm))) (le-trans (mul-le-mul-right (down e) h) (le-of-eq (sym (v .1) ∙ simp mul-one)))) L)
+
+-- x is 1, y is g / l, and x is not above y
+from-one : (x y : Float) (g l : ℕ) → 0 < l → T (le x y) → HasValue x false 1 1 → HasValue y false g l → l ≤ g
+unfolding le
+from-one nan y g l L t v w = absurd v
+from-one (inf s) y g l L t v w = absurd v
+from-one (fin true m e) y g l L t v w = absurd (true≢false (v .0))
+from-one (fin false m e) nan g l L t v w = absurd w
+from-one (fin false m e) (inf s) g l L t v w = absurd w
+from-one (fin false m e) (fin true p d) g l L t v w = absurd (true≢false (w .0))
+from-one (fin false m e) (fin false p d) g l L t v w =
+    scaled (m * up e) (p * up d) (down e) (down d) g l (down-pos e) (down-pos d) (cross (m * up e * down d) (p * up d * down e) t) (v .1) (w .1)
+  where
+    scaled : (x y de dd g l : ℕ) → 0 < de → 0 < dd → x * dd ≤ y * de → x * 1 ≡ 1 * de → y * l ≡ g * dd → l ≤ g
+    scaled x y de dd g l E D h v w =
+        let q : x ≡ de = omega (arith, v) in
+        let a : l * (de * dd) ≤ g * (de * dd) =
+        le-trans (le-of-eq (simp (mul-assoc, mul-comm, mul-left-comm)))
+        (le-trans (mul-le-mul-right l (subst (λ (z : ℕ). z * dd ≤ y * de) q h)) (le-of-eq (mul-right-comm y de l ∙ ap (λ (z : ℕ). z * de) w ∙ simp (mul-assoc, mul-comm, mul-left-comm)))) in
+        le-of-mul-le-mul-right a (mul-pos E D)
+
+pub round-least : (b k : ℕ) (a c : ℕ) → k < countLimit → b ≤ exponentLimit → 0 < c → a ≤ k * 2 ^ b * c → c ≤ a → Least 1 1 (round binary64 false a c)
+round-least b k a c K B C h l =
+    let r = rounded b k false a c K B C h in
+    let one : HasValue (round binary64 false 1 1) false 1 1 = bound-exact 0 1 (lit≤ tt) (lit≤ tt) in
+    let t : T (le (round binary64 false 1 1) (round binary64 false a c)) = round-mono binary64 1 1 a c (zero-lt-suc 0) C (omega arith) in
+    least-of (round binary64 false a c) (r .units) (2 ^ 1074) (pow-pos 1074) (r .value) (from-one (round binary64 false 1 1) (round binary64 false a c) (r .units) (2 ^ 1074) (pow-pos 1074) t one (r .value))

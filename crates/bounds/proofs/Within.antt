@@ -108,7 +108,7 @@ pub mul-within : {b c k l : ℕ} {x y : Float} → Within b k x → Within c l y
 mul-within {b} {c} {k} {l} {x} {y} v w K B =
     record { sized = mul-sized (b + c) (k * l) (k * 2 ^ b) (l * 2 ^ c) x y (K, B) (powers b c k l) (v .sized) (w .sized); fits = mul-fits binary64 x y }
 
-pos-of : (n d u j : ℕ) → 0 < d → d ≤ n * u * j → 0 < n
+pub pos-of : (n d u j : ℕ) → 0 < d → d ≤ n * u * j → 0 < n
 pos-of zero d u j D h = absurd (no u j (lt-of-lt-of-le D h))
   where
     no : (u j : ℕ) → 0 < 0 * u * j → ⊥
@@ -118,7 +118,7 @@ pos-of (suc n) d u j D h = zero-lt-suc n
 zero-not : (n : ℕ) → 0 < n → n ≡ 0 → ⊥
 zero-not n h e = omega arith
 
-div-is : (u : Bool) (m : ℕ) (e : ℤ) (v : Bool) (l : ℕ) (d : ℤ) → 0 < l → fin u m e /f fin v l d ≡ round binary64 (unlike u v) (m * up e * down d) (l * up d * down e)
+pub div-is : (u : Bool) (m : ℕ) (e : ℤ) (v : Bool) (l : ℕ) (d : ℤ) → 0 < l → fin u m e /f fin v l d ≡ round binary64 (unlike u v) (m * up e * down d) (l * up d * down e)
 unfolding div
 div-is u m e v l d h = rw (ne-eqb l 0 (zero-not l h))
 

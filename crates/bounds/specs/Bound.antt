@@ -1,6 +1,8 @@
 -- Bounds of the form k·2^b. With k below 2⁵³ such a bound is a float itself, and rounding keeps order, so a sum or a product that is within
 -- it is so after rounding. A sum of k terms within 2^b is then within k·2^b.
 use Prim.Native.Nat.{ℕ, _*_, _^_, _≤_, _<_}
+use mathlib.Core.Path.{_≡_}
+use mathlib.Core.Bool.{Bool, false}
 use mathlib.Core.List.{List}
 use lib.Dec.{T}
 use lib.ListN.{length, getD}
@@ -26,6 +28,18 @@ abbrev pub Apart : ℕ → Float → Type 0
 Apart j nan = ⊥
 Apart j (inf s) = ⊥
 Apart j (fin s m e) = down e ≤ m * up e * 2 ^ j
+
+-- of sign s, true for minus, and no further from 0 than n
+abbrev pub Ranged : Bool → ℕ → Float → Type 0
+Ranged s n nan = ⊥
+Ranged s n (inf t) = ⊥
+Ranged s n (fin t m e) = (t ≡ s) × (m * up e ≤ n * down e)
+
+-- of sign plus, finite, and at least q / r
+abbrev pub Least : ℕ → ℕ → Float → Type 0
+Least q r nan = ⊥
+Least q r (inf t) = ⊥
+Least q r (fin t m e) = (t ≡ false) × (q * down e ≤ m * up e * r)
 
 -- 2⁵³: k has to be below it
 abbrev pub countLimit : ℕ
