@@ -25,12 +25,12 @@ cellTerms m = fieldTerms + m * tileTerms
 abbrev pub errorTerms : ℕ → ℕ
 errorTerms m = 1 + m * tileVisits
 
--- the tiles of 1,000 passes of four phases, each looking at 4,096 tiles at most, and of one phase more, as a job may be in its midst
+-- the tiles of 1,000 passes of four phases, each looking at 4,096 tiles at most, and of a phase more and less than another, as a job may have made in the midst of one
 abbrev pub walkTileLimit : ℕ
 walkTileLimit = 16384000
 
 abbrev pub tileLimit : ℕ
-tileLimit = 16388096
+tileLimit = 16392192
 
 -- what tiles read is within its bounds
 pub record Steady (S : Shared) : Type 0 where

@@ -1,0 +1,92 @@
+-- What refine leaves and what measure answers. Assumes nothing.
+use Prim.Native.Nat.{ℕ, _*_, _≤_}
+use mathlib.Core.Path.{_≡_, refl, sym, ap, _∙_, subst}
+use mathlib.Core.Bool.{Bool, true, false, cond}
+use mathlib.Core.List.{List, []}
+use borrow.Author.Tests.{eqb-true}
+use lib.Dec.{eqb, lit≤}
+use lib.ListN.{length}
+use lib.Ieee.{Float, fits, ofBits}
+use Rattle.base.specs.F64.{f0}
+use Rattle.base.specs.declared.Status.{Status}
+use Rattle.base.specs.Refusal.{judge, accepted}
+use Rattle.base.proofs.JudgeLaws.{judge-zero}
+use Rattle.color.specs.Inks.{inkValues}
+use Rattle.eye.specs.Constants.{alphaLum, alphaChroma}
+use Rattle.eye.specs.Eye.{sigmaPx, blurRadius}
+use Rattle.kernel.specs.Kernel.{gaussianBlur}
+use Rattle.bounds.specs.Number.{Number}
+use Rattle.bounds.specs.Bound.{Within}
+use Rattle.bounds.proofs.Within.{number, numbers}
+use Rattle.inkbounds.proofs.Inks.{inks-within}
+use Rattle.kernelbounds.specs.Kernels.{Fitting}
+use Rattle.kernelbounds.proofs.Gauss.{blur-within}
+use Rattle.kernelbounds.proofs.Kernels.{fitting-lum, fitting-chroma}
+use Rattle.errorbounds.proofs.Errors.{zero-within}
+use Rattle.errorbounds.proofs.Measured.{perceived-within}
+use Rattle.input.specs.Input.{Input, inputTests, refineTests}
+use Rattle.input.proofs.InputLaws.{input-numbered}
+use Rattle.input.proofs.Validity.{valid-iff, refine-valid-iff}
+use Rattle.walk.specs.Walk.{Walk}
+use Rattle.prepare.specs.Prepare.{tilingOf, inksOf, cppOf, errorOf, runOne}
+use Rattle.prepare.proofs.Laws.{eye-ok}
+use Rattle.refine.specs.Refine.{Refinement, refineAccepted, refineOf}
+use Rattle.refine.proofs.Laws.{accepted-is}
+use Rattle.refine.proofs.Promises.{accepts-valid}
+use Rattle.perceived.specs.Perceived.{Blur, errorOf as measuredError, answer, refusal, measureOf}
+use Rattle.perceived.proofs.Laws.{frame-fits}
+use Rattle.finite.specs.Finite.{RunNumbers, RefinedNumbers}
+use Rattle.finite.proofs.Prepared.{inks-are, store-is, store-numbers, initial-is}
+use Rattle.finite.proofs.Runs.{run-numbers}
+
+-- ---- refine
+
+module _ (I : Input) (passes : ℕ) (cpe cpp : List Float) (counts : List ℕ) (inks : List Float) (e : refineOf I passes cpe cpp counts inks .stats .number ≡ 0) where
+  input-ok : judge (inputTests I) ≡ accepted
+  input-ok = valid-iff I .1 (accepts-valid I passes cpe cpp counts inks e .valid)
+
+  room : length cpp ≡ 8450
+  room = accepts-valid I passes cpe cpp counts inks e .cpp-length
+
+  pub refine-run : RunNumbers I passes cpp
+  refine-run = run-numbers I passes cpp input-ok room (accepts-valid I passes cpe cpp counts inks e .passes-most)
+
+  accepted-numbers : RefinedNumbers I (refineAccepted I passes cpp counts)
+  unfolding refineAccepted
+  accepted-numbers =
+      let w = refine-run .phases (4 * passes) in
+      record {
+        cpe = w .cpe;
+        kernels = refine-run .prepared .kernels;
+        inks = refine-run .prepared .inks;
+        initial = refine-run .prepared .initial;
+        final = w .error;
+      }
+
+  verdict-zero : judge (refineTests I passes (length cpe) (length cpp) (length counts) (length inks)) .number ≡ 0
+  verdict-zero = ap (λ (s : Status). s .number) (refine-valid-iff I passes (length cpe) (length cpp) (length counts) (length inks) .1 (accepts-valid I passes cpe cpp counts inks e))
+
+  pub refine-numbers : RefinedNumbers I (refineOf I passes cpe cpp counts inks)
+  refine-numbers = subst (RefinedNumbers I) (accepted-is I passes cpe cpp counts inks verdict-zero) accepted-numbers
+
+-- ---- measure
+
+measured : (I : Input) → judge (inputTests I) ≡ accepted → Number (measuredError I)
+unfolding measuredError
+measured I ok =
+    let lum = fitting-lum (I .params) (eye-ok I ok) in
+    let chroma = fitting-chroma (I .params) (eye-ok I ok) in
+    let blur : (sigma : Float) → Fitting sigma → Blur sigma (gaussianBlur sigma) (blurRadius sigma) = λ sigma f. record { values-are = refl; radius-is = refl; most = f .reach } in
+    number
+    (perceived-within (I .width) (I .height) (I .pixels) (I .indices) (inkValues (I .palette)) _ _ _ _
+    (frame-fits I ok (inkValues (I .palette)) refl (sigmaPx alphaLum (I .params)) _ _ (blur _ lum))
+    (frame-fits I ok (inkValues (I .palette)) refl (sigmaPx alphaChroma (I .params)) _ _ (blur _ chroma))
+    (inks-within (I .palette)) (blur-within (sigmaPx alphaLum (I .params)) lum) (blur-within (sigmaPx alphaChroma (I .params)) chroma))
+
+pub measure-number : (I : Input) → Number (measureOf I .error)
+unfolding measureOf
+measure-number I = go (eqb (judge (inputTests I) .number) 0) refl
+  where
+    go : (b : Bool) → eqb (judge (inputTests I) .number) 0 ≡ b → Number (cond b (answer (measuredError I)) (refusal (judge (inputTests I))) .error)
+    go true e = measured I (judge-zero (inputTests I) (input-numbered I) (eqb-true _ _ e))
+    go false e = number (zero-within 0)
