@@ -1,19 +1,19 @@
 -- Floats between 0 and a whole number, with their signs: products, quotients and sums of them, and 1 less such a number. Assumes nothing.
-use Prim.Native.Nat.{ℕ, zero, suc, _+_, _-_, _*_, _^_, _≤_, _<_}
-use mathlib.Core.Path.{_≡_, refl, sym, ap, ap₂, _∙_, subst}
+use Prim.Native.Nat.{ℕ, _+_, _-_, _*_, _≤_, _<_}
+use mathlib.Core.Path.{_≡_, refl, sym, ap, _∙_, subst}
 use mathlib.Core.Logic.{_⊎_, inl, inr}
-use mathlib.Core.Bool.{Bool, true, false, not, cond, _&&_, true≢false, false≢true}
-use native.Mathlib.Nat.{le-trans, le-of-eq, mul-one, one-mul, mul-comm, mul-assoc, mul-left-comm, mul-le-mul, mul-le-mul-right, le-of-mul-le-mul-right, mul-pos, add-mul, mul-mul-mul-comm}
+use mathlib.Core.Bool.{Bool, true, false, not}
+use native.Mathlib.Nat.{le-trans, le-of-eq, mul-one, mul-comm, mul-assoc, mul-left-comm, mul-le-mul, mul-le-mul-right, le-of-mul-le-mul-right, mul-pos, add-mul, mul-mul-mul-comm}
 use native.Mathlib.Omega.{arith}
-use lib.Dec.{T, ltb, lit≤}
-use lib.IntN.{ℤ, pos}
-use lib.Ieee.{Float, nan, inf, fin, binary64, unlike, up, down, round, neg, sum, add, mul, div, fits, ofBits, ofInt}
+use lib.Dec.{T, lit≤}
+use lib.IntN.{ℤ}
+use lib.Ieee.{Float, nan, inf, fin, binary64, unlike, up, down, round, neg, sum, add, mul, fits, ofBits, ofInt}
 use lib.Ieee.Fits.{up-pos, down-pos}
 use lib.Ieee.Exact.{HasValue}
 use lib.Ieee.Back.{round-whole}
 use borrow.Author.Tests.{le-ltb}
 use Rattle.base.specs.F64.{_+f_, _*f_, _/f_, wholef, f1}
-use Rattle.bounds.specs.Bound.{Sized, Ranged, Least, Within, countLimit, exponentLimit}
+use Rattle.bounds.specs.Bound.{Sized, Ranged, Least, Within, countLimit}
 use Rattle.bounds.proofs.Rounding.{round-ranged, round-least, ranged-sized}
 use Rattle.bounds.proofs.Within.{div-is, pos-of}
 

@@ -1,22 +1,22 @@
 -- Rounding keeps a bound k·2^b with k below 2⁵³: the bound is a float, so it rounds to itself, and rounding is monotone. Assumes nothing.
-use Prim.Native.Nat.{ℕ, zero, suc, _+_, _-_, _*_, _^_, _≤_, _<_}
-use mathlib.Core.Path.{_≡_, refl, sym, ap, _∙_, subst}
+use Prim.Native.Nat.{ℕ, _+_, _*_, _^_, _≤_, _<_}
+use mathlib.Core.Path.{_≡_, sym, ap, _∙_, subst}
 use mathlib.Core.Bool.{Bool, true, false, cond, _||_, _&&_, true≢false}
 use mathlib.Core.Logic.{_⊎_, inl, inr}
 use native.Mathlib.Nat.{le-trans, le-of-eq, le-of-lt, mul-one, one-mul, mul-comm, mul-assoc, mul-left-comm, mul-right-comm, mul-le-mul-right, le-of-mul-le-mul-right, lt-of-lt-of-le, zero-lt-suc, mul-pos}
 use native.Mathlib.Omega.{arith}
 use lib.Dec.{T, ltb, eqb, ltb→lt, eqb→eq, lit≤}
 use lib.Pow.{pow-add, pow-pos, pow-mono, shl-lt}
-use lib.Ieee.{Float, nan, inf, fin, binary64, prec, low, emax, up, down, odd, units, round, le}
+use lib.Ieee.{Float, nan, inf, fin, binary64, up, down, odd, units, round, le}
 use lib.Ieee.Fits.{down-pos, round-is, and-l}
 use lib.Ieee.Exact.{HasValue, round-exact, units-val}
 use lib.Ieee.Order.{round-mono, drop, kept}
-use lib.Ieee.Scale.{grid, overflow, round-val}
+use lib.Ieee.Scale.{overflow, round-val}
 use Rattle.bounds.specs.Bound.{Sized, Ranged, Least, countLimit, exponentLimit}
 
 -- ---- the bound is a float
 
-room : (b : ℕ) → b ≤ 900 → 53 + (b + 1074) ≤ 2098
+room : (b : ℕ) → b ≤ exponentLimit → 53 + (b + 1074) ≤ 2098
 room b h = omega arith
 
 pub bound-exact : (b k : ℕ) → k < countLimit → b ≤ exponentLimit → HasValue (round binary64 false (k * 2 ^ b) 1) false (k * 2 ^ b) 1

@@ -1,17 +1,18 @@
 -- Loops that add: what grows by at most w in each turn has grown by at most n·w after n turns. Assumes nothing.
-use Prim.Native.Nat.{ℕ, zero, suc, _+_, _-_, _*_, _≤_, _<_}
+use Prim.Native.Nat.{ℕ, suc, _+_, _-_, _*_, _≤_, _<_}
 use mathlib.Core.Path.{_≡_, subst}
 use mathlib.Core.List.{List}
-use native.Mathlib.Nat.{le-trans, mul-le-mul-right}
+use native.Mathlib.Nat.{mul-le-mul-right}
+use native.Mathlib.Decide.{ℕ-discrete}
 use native.Mathlib.Omega.{arith}
-use lib.ListN.{length, getD}
+use lib.ListN.{length, getD, set, length-set}
+use lib.Seq.{getD-set-same, getD-set-other}
 use lib.Ieee.{Float, nan}
 use Rattle.base.specs.Loop.{upTo, fromTo, table}
-use Rattle.base.specs.F64.{_+f_}
 use Rattle.base.proofs.LoopLaws.{upTo-ind}
 use Rattle.base.proofs.TableLaws.{length-table, getD-table}
-use Rattle.bounds.specs.Bound.{Within, AllWithin, countLimit, exponentLimit}
-use Rattle.bounds.proofs.Within.{more, add-within}
+use Rattle.bounds.specs.Bound.{Within, AllWithin}
+use Rattle.bounds.proofs.Within.{more}
 
 -- P m s says that s has grown to m at most
 module _ {A : Type 0} (P : ℕ → A → Type 0) (w : ℕ) (f : ℕ → A → A) where
@@ -52,3 +53,14 @@ pub table-within : (b k n : ℕ) (f : ℕ → Float) → ((i : ℕ) → i < n �
 table-within b k n f w i h =
     let l : i < n = subst (λ (z : ℕ). i < z) (length-table n f) h in
     rw (getD-table n f i nan l) (w i l)
+
+-- a list with one value replaced, if it has the place
+pub set-within : (b k : ℕ) (l : List Float) (j : ℕ) (v : Float) → (j < length l → Within b k v) → AllWithin b k l → AllWithin b k (set l j v)
+set-within b k l j v x w i h = go (ℕ-discrete i j)
+  where
+    room : i < length l
+    room = subst (λ (n : ℕ). i < n) (length-set l j v) h
+
+    go : Dec (i ≡ j) → Within b k (getD (set l j v) i nan)
+    go (yes e) = rw (← e, getD-set-same l i v nan room) (x (subst (λ (n : ℕ). n < length l) e room))
+    go (no e) = rw (getD-set-other l j i v nan e) (w i room)

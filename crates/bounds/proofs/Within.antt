@@ -1,17 +1,17 @@
 -- How f64 arithmetic keeps bounds. Assumes nothing.
 use Prim.Native.Nat.{ℕ, zero, suc, _+_, _-_, _*_, _^_, _≤_, _<_}
-use mathlib.Core.Path.{_≡_, refl, sym, ap, _∙_, subst}
-use mathlib.Core.Bool.{Bool, true, false, not, cond, _&&_, Bool·beq}
-use native.Mathlib.Nat.{zero-mul, zero-lt-suc, lt-irrefl, lt-of-lt-of-le, le-trans, le-of-eq, le-refl, mul-comm, mul-assoc, mul-left-comm, mul-right-comm, mul-le-mul, mul-le-mul-right, mul-pos, add-mul, mul-mul-mul-comm}
+use mathlib.Core.Path.{_≡_, sym, ap, _∙_, subst}
+use mathlib.Core.Bool.{Bool, true, false, cond, _&&_, Bool·beq}
+use native.Mathlib.Nat.{zero-mul, zero-lt-suc, lt-irrefl, lt-of-lt-of-le, le-trans, le-of-eq, mul-comm, mul-assoc, mul-left-comm, mul-le-mul, mul-le-mul-right, mul-pos, add-mul, mul-mul-mul-comm}
 use native.Mathlib.Omega.{arith}
-use lib.Dec.{T, ltb, eqb, lit≤}
-use lib.Pow.{pow-add, pow-pos}
+use lib.Dec.{T, ltb}
+use lib.Pow.{pow-add}
 use lib.IntN.{ℤ}
-use lib.Ieee.{Float, nan, inf, fin, binary64, unlike, up, down, round, neg, sum, add, sub, mul, div, fits}
+use lib.Ieee.{Float, nan, inf, fin, binary64, unlike, up, down, round, neg, sum, add, sub, mul, div, fits, ofBits}
 use lib.Ieee.Fits.{up-pos, down-pos, neg-fits, add-fits, mul-fits, div-fits}
 use lib.Ieee.Scale.{finite}
 use borrow.Author.Tests.{ne-eqb}
-use Rattle.base.specs.F64.{_+f_, _-f_, _*f_, _/f_}
+use Rattle.base.specs.F64.{f0, _+f_, _-f_, _*f_, _/f_}
 use Rattle.bounds.specs.Number.{Number, Numbers}
 use Rattle.bounds.specs.Bound.{Sized, Within, AllWithin, Apart, countLimit, exponentLimit}
 use Rattle.bounds.proofs.Rounding.{round-sized}
@@ -28,6 +28,10 @@ wider {b} {k} {x} c l h w = record { sized = sized-more (k * 2 ^ b) (l * 2 ^ c) 
 
 pub more : {b k : ℕ} {x : Float} (l : ℕ) → k ≤ l → Within b k x → Within b l x
 more {b} {k} {x} l h w = wider b l (mul-le-mul-right (2 ^ b) h) w
+
+pub zero-within : (b : ℕ) → Within b 0 f0
+unfolding ofBits fits
+zero-within b = record { sized = omega arith; fits = tt }
 
 -- ---- sums and differences
 

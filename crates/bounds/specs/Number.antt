@@ -23,9 +23,11 @@ pub record OneBits (x : Float) : Type 0 where
   pub back : ofBits binary64 (toBits binary64 x) ≡ x
   pub only : (b : ℕ) → b < 2 ^ 64 → ofBits binary64 b ≡ x → b ≡ toBits binary64 x
 
--- x and y are equal bit for bit: any patterns that they have are one
-abbrev pub SameBits : Float → Float → Type 0
-SameBits x y = (a b : ℕ) → a < 2 ^ 64 → b < 2 ^ 64 → ofBits binary64 a ≡ x → ofBits binary64 b ≡ y → a ≡ b
+-- x and y are equal bit for bit: `toBits` of both is the same, and neither has another pattern
+pub record SameBits (x y : Float) : Type 0 where
+  pub same : toBits binary64 x ≡ toBits binary64 y
+  pub left : OneBits x
+  pub right : OneBits y
 
 -- value by value
 pub record SameBitsAll (l m : List Float) : Type 0 where

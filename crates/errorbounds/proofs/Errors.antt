@@ -1,37 +1,28 @@
 -- The error of a pixel, the field and the initial error, of inks and kernels within their bounds. Assumes nothing.
 use Prim.Native.Nat.{ℕ, zero, suc, _+_, _-_, _*_, _/_, _%_, _≤_, _<_, min}
 use native.Mathlib.Omega.{arith}
-use mathlib.Core.Path.{_≡_, refl, sym, ap, _∙_, subst}
 use mathlib.Core.Bool.{Bool, true, false, cond}
 use mathlib.Core.List.{List}
 use lib.Dec.{lit≤, lit<}
 use lib.ListN.{length, getD}
-use lib.Ieee.{Float, nan, fits, ofBits}
-use Rattle.base.specs.F64.{_+f_, _*f_, f0}
-use Rattle.base.specs.Loop.{upTo, fromTo}
+use lib.Ieee.{Float}
+use Rattle.base.specs.F64.{f0}
 use Rattle.base.proofs.Bounds.{image-product}
 use Rattle.color.specs.declared.YyCxCz.{YyCxCz}
 use Rattle.color.specs.Values.{valuesAt, lessOf}
-use Rattle.color.specs.YyCxCz.{yycxcz}
-use Rattle.color.specs.Inks.{channel}
 use Rattle.tiling.specs.declared.Tiling.{Tiling}
 use Rattle.tiling.specs.Tiling.{Limits}
 use Rattle.cpp.specs.declared.Kernel2D.{Kernel2D}
-use Rattle.cpp.specs.Kernel.{size, kernelAt, lumKernel, chromaKernel}
+use Rattle.cpp.specs.Kernel.{lumKernel, chromaKernel}
 use Rattle.pins.specs.Pins.{pinnedAt}
 use Rattle.bounds.specs.Bound.{Within, AllWithin, countLimit}
-use Rattle.bounds.proofs.Within.{wider, more, add-within, sub-within, mul-within}
+use Rattle.bounds.proofs.Within.{zero-within, wider, more, add-within, sub-within, mul-within}
 use Rattle.bounds.proofs.Sums.{rise, upTo-grown, fromTo-grown, table-within}
 use Rattle.inkbounds.specs.Inks.{ColourWithin, inkExponent}
 use Rattle.inkbounds.proofs.Inks.{colour-within, channel-within}
-use Rattle.kernelbounds.specs.Kernels.{kernelExponent}
 use Rattle.error.specs.Error.{Scene, SceneFits, halftoneAt, colourAt, targetAt, errorAt, correlateTerm, correlateRow, correlateAt, channelKernel, fieldAt, fieldValue, fieldOf, errorTerm, channelError, initialError}
 use Rattle.error.proofs.Laws.{pixel-fits, column-lt, row-lt, length-field}
 use Rattle.errorbounds.specs.Errors.{errorExponent, cpeExponent, fieldTerms, costExponent, KernelWithin, StoreWithin}
-
-pub zero-within : (b : ℕ) → Within b 0 f0
-unfolding ofBits fits
-zero-within b = record { sized = omega arith; fits = tt }
 
 -- ---- three values of a list, and differences
 
@@ -41,9 +32,9 @@ values-within b k l j w h = record { yy = w j (omega arith); cx = w (j + 1) (ome
 -- of two colours
 pub less-within : {v w : YyCxCz} → ColourWithin inkExponent 1 v → ColourWithin inkExponent 1 w → ColourWithin errorExponent 1 (lessOf v w)
 less-within a b = record {
-  yy = wider 14 1 (lit≤ tt) (sub-within (a .yy) (b .yy) (lit< tt) (lit≤ tt));
-  cx = wider 14 1 (lit≤ tt) (sub-within (a .cx) (b .cx) (lit< tt) (lit≤ tt));
-  cz = wider 14 1 (lit≤ tt) (sub-within (a .cz) (b .cz) (lit< tt) (lit≤ tt));
+  yy = wider errorExponent 1 (lit≤ tt) (sub-within (a .yy) (b .yy) (lit< tt) (lit≤ tt));
+  cx = wider errorExponent 1 (lit≤ tt) (sub-within (a .cx) (b .cx) (lit< tt) (lit≤ tt));
+  cz = wider errorExponent 1 (lit≤ tt) (sub-within (a .cz) (b .cz) (lit< tt) (lit≤ tt));
 }
 
 -- ---- the error of a pixel
@@ -146,4 +137,4 @@ module _ (T : Tiling) (G : Scene) (cpp : List Float) (l : Limits T) (f : SceneFi
       let a = channel-error-within 0 in
       let b = channel-error-within 1 in
       let c = channel-error-within 2 in
-      wider 97 1 (lit≤ tt) (add-within (add-within (add-within (zero-within 39) a (lit< tt) (lit≤ tt)) b (lit< tt) (lit≤ tt)) c (lit< tt) (lit≤ tt))
+      wider costExponent 1 (lit≤ tt) (add-within (add-within (add-within (zero-within 39) a (lit< tt) (lit≤ tt)) b (lit< tt) (lit≤ tt)) c (lit< tt) (lit≤ tt))

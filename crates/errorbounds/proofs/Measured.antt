@@ -1,25 +1,21 @@
 -- The perceived error, through blurs whose values are at most 1: at most 33 · 33 terms of 2^14, squared, and at most 4,128 · 4,128 squares. Assumes nothing.
 use Prim.Native.Nat.{ℕ, _+_, _-_, _*_, _≤_, _<_, min}
 use native.Mathlib.Omega.{arith}
-use mathlib.Core.Path.{_≡_}
 use mathlib.Core.List.{List, []}
 use lib.Dec.{lit≤, lit<}
 use lib.ListN.{length}
 use lib.Ieee.{Float}
-use Rattle.base.specs.F64.{_+f_, _*f_, f0}
-use Rattle.base.specs.Loop.{upTo, fromTo}
+use Rattle.base.specs.F64.{_+f_, f0}
 use Rattle.base.proofs.Bounds.{index-lt}
-use Rattle.color.specs.Inks.{channel}
 use Rattle.bounds.specs.Bound.{Within, AllWithin, countLimit}
-use Rattle.bounds.proofs.Within.{wider, more, add-within, mul-within}
+use Rattle.bounds.proofs.Within.{zero-within, more, add-within, mul-within}
 use Rattle.bounds.proofs.Sums.{rise, upTo-grown, fromTo-grown}
 use Rattle.inkbounds.specs.Inks.{inkExponent}
 use Rattle.inkbounds.proofs.Inks.{channel-within}
-use Rattle.error.specs.Error.{Scene, scene, SceneFits, errorAt}
+use Rattle.error.specs.Error.{Scene, scene}
 use Rattle.measure.specs.declared.Frame.{Frame}
 use Rattle.measure.specs.Measure.{frame, FrameFits, blurTerm, blurRow, blurredAt, squareTerm, rowError, blurError, perceivedOf}
-use Rattle.errorbounds.specs.Errors.{errorExponent}
-use Rattle.errorbounds.proofs.Errors.{error-within, zero-within}
+use Rattle.errorbounds.proofs.Errors.{error-within}
 
 reach : (o r n : ℕ) → r ≤ 16 → min n (o + 1) - (o - 2 * r) ≤ 33
 reach o r n h = omega arith

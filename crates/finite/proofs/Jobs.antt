@@ -1,61 +1,56 @@
 -- A job between any two calls: its image is that of a plain walk over the tiles that are back (demand 3's invariant), copies are parts of such images, and
 -- deltas are those of tiles refined on such copies. Assumes nothing.
-use Prim.Native.Nat.{ℕ, suc, _+_, _*_, _≤_, _<_}
+use Prim.Native.Nat.{ℕ, _*_, _<_}
 use native.Mathlib.Omega.{arith}
-use native.Mathlib.Decide.{ℕ-discrete}
-use mathlib.Core.Path.{_≡_, refl, sym, ap, _∙_, subst}
+use mathlib.Core.Path.{_≡_, refl, sym, ap, subst}
 use mathlib.Core.Bool.{Bool, true, false, cond}
 use mathlib.Core.List.{List, [], _∷_, List·Memᴰ}
 use lib.Dec.{lit≤, eqb}
-use lib.ListN.{length, getD, set, replicate, length-set, length-replicate, getD-replicate}
-use lib.Seq.{getD-set-same, getD-set-other}
+use lib.ListN.{length, replicate, length-replicate, getD-replicate}
 use lib.Ieee.{Float, nan}
 use Rattle.base.specs.declared.Rect.{Rect}
 use Rattle.base.specs.F64.{f0}
 use Rattle.base.specs.Grid.{area, place, columnAt, rowAt, valueAt, cell, crop}
 use Rattle.base.specs.Refusal.{judge, accepted}
 use Rattle.base.proofs.GridLaws.{widen, place-lt, at-inside, part-lt}
-use Rattle.tiling.specs.declared.Tiling.{Tiling}
 use Rattle.tiling.specs.Tiling.{image, tile, region, tiles}
 use Rattle.tiling.proofs.TilingLaws.{region-within}
-use Rattle.search.specs.Shared.{Shared, shared, Named}
-use Rattle.tile.specs.Tile.{State, state, refineTile, noProgress}
+use Rattle.search.specs.Shared.{Named}
+use Rattle.tile.specs.Tile.{State, state, noProgress}
 use Rattle.tile.proofs.Keeps.{Sound}
 use Rattle.bounds.specs.Bound.{Within, AllWithin}
-use Rattle.bounds.proofs.Within.{number, numbers, more}
-use Rattle.bounds.proofs.Sums.{rise-all, table-within}
+use Rattle.bounds.proofs.Within.{zero-within, number, numbers, more}
+use Rattle.bounds.proofs.Sums.{set-within, table-within}
 use Rattle.errorbounds.specs.Errors.{cpeExponent, costExponent}
-use Rattle.errorbounds.proofs.Errors.{zero-within}
-use Rattle.walkbounds.specs.Terms.{Steady, tileVisits, cellTerms, tileLimit, walkTileLimit}
+use Rattle.walkbounds.specs.Terms.{Steady, tileVisits, cellTerms, midTileLimit, walkTileLimit}
 use Rattle.walkbounds.proofs.Walks.{Walked, some-walked}
 use Rattle.input.specs.Input.{Input, inputTests}
 use Rattle.input.proofs.Validity.{valid-iff}
-use Rattle.prepare.specs.Prepare.{tilingOf, inksOf, cppOf, cpeOf, sharedOf, runOne}
+use Rattle.prepare.specs.Prepare.{tilingOf, inksOf, cppOf, sharedOf}
 use Rattle.job.specs.declared.JobRecord.{JobRecord}
 use Rattle.job.specs.declared.Plan.{Plan}
 use Rattle.job.specs.Record.{isAccepted, jobShared}
-use Rattle.job.specs.Copy.{Pixels, pixels, copyOf, refinedCopy}
-use Rattle.job.specs.Open.{Opening, openOf}
+use Rattle.job.specs.Copy.{Pixels, copyOf, refinedCopy}
+use Rattle.job.specs.Open.{Opening, firstRecord, openOf}
 use Rattle.job.specs.Work.{workOf}
-use Rattle.job.specs.Valid.{ValidWork}
 use Rattle.job.specs.Runs.{Call, take as takeCall, putBack, close, Job, start, answer, changed, refused, after, closesAfter}
 use Rattle.job.specs.Claim.{Own, WorkMade, Brings, Fair, phases}
 use Rattle.job.proofs.Validity.{work-passes}
 use Rattle.job.proofs.Answers.{accepted-is, work-answers}
 use Rattle.job.proofs.Opened.{leaves, valid, starts}
-use Rattle.job.proofs.Merge.{pixelsNow, walkSome}
-use Rattle.job.proofs.Phase.{isHome, tookTile, tileBack, phaseClosed, take-changed, putBack-changed, close-changed, image-whole}
+use Rattle.job.proofs.Merge.{walkSome}
+use Rattle.job.proofs.Phase.{isHome, tookTile, tileBack, phaseClosed, take-changed, putBack-changed, close-changed, work-made, image-whole}
 use Rattle.job.proofs.Copies.{region-covers}
-use Rattle.job.proofs.Demand3.{after-accepted, planOf, Mid, sharedHere, made-is, image-is, kept, opened}
-use Rattle.finite.specs.Finite.{TileNumbers, RunNumbers, JobNumbers, AlongNumbers, JobRunNumbers}
+use Rattle.job.proofs.Demand3.{planOf, Mid, sharedHere, made-is, image-is, kept, opened}
+use Rattle.finite.specs.Finite.{TileNumbers, RunNumbers, OpenedNumbers, workAt, WorkNumbers, JobNumbers, AlongNumbers, JobRunNumbers}
 use Rattle.finite.proofs.Prepared.{steady, initial-is}
 use Rattle.finite.proofs.Runs.{tile-numbers, delta-within, run-walked, run-numbers}
 
 -- the tiles that an image in the midst of a phase has behind it
 abbrev behind : ℕ
-behind = 16388096
+behind = midTileLimit
 
--- ---- a part of an image, and one value written
+-- ---- a part of an image, and zeros
 
 crop-within : (b k : ℕ) (P W : Rect) (l : List Float) → length l ≡ 3 * area P → Rattle.base.specs.Grid.Within P W → AllWithin b k l → AllWithin b k (crop nan 3 P W l)
 unfolding crop cell
@@ -63,16 +58,6 @@ crop-within b k P W l e h w =
     table-within b k (3 * area W) _ (λ i q.
     w (place 3 P (columnAt 3 W i) (rowAt 3 W i) (valueAt 3 i)) (subst (λ (n : ℕ). place 3 P (columnAt 3 W i) (rowAt 3 W i) (valueAt 3 i) < n) (sym e)
     (place-lt 3 P (columnAt 3 W i) (rowAt 3 W i) (valueAt 3 i) (widen h (at-inside 3 W i q)) (part-lt 3 W i q))))
-
-set-within : (b k : ℕ) (l : List Float) (j : ℕ) (v : Float) → Within b k v → AllWithin b k l → AllWithin b k (set l j v)
-set-within b k l j v x w i h = go (ℕ-discrete i j)
-  where
-    room : i < length l
-    room = subst (λ (n : ℕ). i < n) (length-set l j v) h
-
-    go : Dec (i ≡ j) → Within b k (getD (set l j v) i nan)
-    go (yes e) = rw (← e, getD-set-same l i v nan room) x
-    go (no e) = rw (getD-set-other l j i v nan e) (w i room)
 
 zeros-within : (b k n : ℕ) → AllWithin b k (replicate n f0)
 zeros-within b k n i h = rw (getD-replicate n i f0 nan (subst (λ (m : ℕ). i < m) (length-replicate n f0) h)) (more k (omega arith) (zero-within b))
@@ -141,13 +126,18 @@ module _ (O : Opening) (ok : openOf O .status ≡ accepted) where
       unfolding refinedCopy
       made-delta = delta-within (sharedHere O) g W behind (lit≤ tt) t (region-covers (tilingOf I) t (f .tile-has)) (J .last t .cpe) (J .last t .indices) (J .last t .indices) sound (k .copies t)
 
-    works : Held J → (t : ℕ) (r : JobRecord) → List·Memᴰ r (J .seen) → workOf r t (I .pinned) (openOf O .cpp) (J .last t) (openOf O .inks) .status ≡ accepted →
-        TileNumbers (jobShared r (I .pinned) (openOf O .inks) (openOf O .cpp)) (region (r .plan .tiling) t) (tile (r .plan .tiling) t) (state (J .last t .cpe) (J .last t .indices) noProgress)
-    unfolding jobShared
+    -- what it makes is the refined copy, and what it read is what tiles of this job read
+    works : Held J → (t : ℕ) (r : JobRecord) → List·Memᴰ r (J .seen) → workAt O J t r .status ≡ accepted → WorkNumbers O J t r
     works k t r s a =
         let e = H .seen r s in
-        rw (leaves O ok) (subst (λ (p : Plan). TileNumbers (shared (p .tiling) (p .inks) (I .pinned) (inksOf I) (cppOf I (O .cpp))) (region (p .tiling) t) (tile (p .tiling) t) (state (J .last t .cpe) (J .last t .indices) noProgress)) (sym e)
-        (made-numbers k t (facts t r e a)))
+        let f = made-numbers k t (facts t r e a) in
+        let o = leaves O ok in
+        let is : workAt O J t r .made ≡ refinedCopy (sharedHere O) t (J .last t) = rw o (work-made (planOf O) (I .pinned) (inksOf I) (cppOf I (O .cpp)) J (phases O m) H t r e (rw o at a)) in
+        record {
+          cpe = rw is (unfold refinedCopy in f .cpe);
+          delta = rw is (unfold refinedCopy in f .delta);
+          costs = unfold jobShared in rw (o, e) (f .costs);
+        }
 
     pub job-numbers : Held J → JobNumbers O J
     job-numbers k = record {
@@ -181,7 +171,7 @@ module _ (O : Opening) (ok : openOf O .status ≡ accepted) where
     back-held k t made b = record {
       copies = k .copies;
       deltas = set-within costExponent tileVisits (J .deltas) t (made .progress .delta)
-          (subst (λ (s : State). Within costExponent tileVisits (s .progress .delta)) (made-is O ok m J H t made b) (made-delta k t (facts t (b .given) (H .seen (b .given) (b .known)) (b .ok)))) (k .deltas);
+          (λ h. subst (λ (s : State). Within costExponent tileVisits (s .progress .delta)) (made-is O ok m J H t made b) (made-delta k t (facts t (b .given) (H .seen (b .given) (b .known)) (b .ok)))) (k .deltas);
     }
 
     closed-held : Held J → Held (phaseClosed J)
@@ -221,9 +211,22 @@ module _ (O : Opening) (ok : openOf O .status ≡ accepted) where
   start-held : Held (start O)
   start-held = rw (starts O ok) (record { copies = λ t i h. absurd (omega arith); deltas = zeros-within costExponent tileVisits (tiles (tilingOf I)) })
 
+  left : OpenedNumbers I (openOf O)
+  unfolding firstRecord
+  left =
+      rw (leaves O ok) (record {
+        cpe = run .prepared .field;
+        kernels = run .prepared .kernels;
+        deltas = numbers (replicate (tiles (tilingOf I)) f0) (zeros-within 0 1 (tiles (tilingOf I)));
+        inks = run .prepared .inks;
+        initial = run .prepared .initial;
+        error = run .prepared .initial;
+      })
+
   pub job-run : JobRunNumbers O
   job-run = record {
     run = run;
+    left = left;
     opened = job-numbers 0 (start O) (opened O ok) start-held;
     calls = λ cs f. along cs 0 (start O) (opened O ok) start-held f;
   }

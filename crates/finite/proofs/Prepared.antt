@@ -1,25 +1,21 @@
 -- Everything up to the walk is within its bounds. Assumes nothing.
-use Prim.Native.Nat.{ℕ, _+_, _*_, _≤_, _<_}
-use mathlib.Core.Path.{_≡_, refl, sym, ap, _∙_, subst}
+use Prim.Native.Nat.{ℕ, _<_}
+use mathlib.Core.Path.{_≡_}
 use mathlib.Core.List.{List}
-use lib.ListN.{length, getD}
-use lib.Ieee.{Float, nan}
+use lib.ListN.{length}
+use lib.Ieee.{Float}
 use Rattle.base.specs.Refusal.{judge, accepted}
 use Rattle.base.proofs.Bounds.{index-lt}
 use Rattle.color.specs.declared.YyCxCz.{YyCxCz}
-use Rattle.eye.specs.Constants.{alphaLum, alphaChroma}
-use Rattle.eye.specs.Eye.{kernelRadius}
-use Rattle.kernel.specs.Kernel.{values, eyeKernels}
 use Rattle.cpp.specs.declared.Kernel2D.{Kernel2D}
-use Rattle.cpp.specs.Kernel.{size, kernelAt, kernelPlace, lumKernel, chromaKernel}
+use Rattle.cpp.specs.Kernel.{size, kernelAt, lumKernel, chromaKernel}
 use Rattle.error.specs.Error.{errorAt}
 use Rattle.bounds.specs.Bound.{Within, AllWithin}
 use Rattle.bounds.proofs.Within.{number, numbers}
 use Rattle.inkbounds.specs.Inks.{ColourWithin, inkExponent}
 use Rattle.inkbounds.proofs.Inks.{inks-within}
-use Rattle.kernelbounds.specs.Kernels.{kernelExponent}
 use Rattle.kernelbounds.proofs.Kernels.{lum-within, chroma-within}
-use Rattle.errorbounds.specs.Errors.{errorExponent, cpeExponent, fieldTerms, costExponent, KernelWithin, StoreWithin}
+use Rattle.errorbounds.specs.Errors.{cpeExponent, fieldTerms, costExponent, KernelWithin, StoreWithin}
 use Rattle.errorbounds.proofs.Errors.{error-within, field-within, initial-within}
 use Rattle.walkbounds.specs.Terms.{Steady}
 use Rattle.input.specs.Input.{Input, inputTests}
@@ -33,6 +29,9 @@ kernel-number cpp k w i j a b = number (w i j a b)
 
 pub store-numbers : (T : Tiling) (cpp : List Float) → StoreWithin T cpp → StoreNumbers T cpp
 store-numbers T cpp w = record { lum = kernel-number cpp (lumKernel T) (w .lum); chroma = kernel-number cpp (chromaKernel T) (w .chroma) }
+
+pub colour-number : {b k : ℕ} {c : YyCxCz} → ColourWithin b k c → ColourNumbers c
+colour-number w = record { yy = number (w .yy); cx = number (w .cx); cz = number (w .cz) }
 
 module _ (I : Input) (cpp : List Float) (ok : judge (inputTests I) ≡ accepted) (room : length cpp ≡ 8450) where
   pub inks-are : AllWithin inkExponent 1 (inksOf I)
@@ -57,9 +56,6 @@ module _ (I : Input) (cpp : List Float) (ok : judge (inputTests I) ≡ accepted)
   pub initial-is : Within costExponent 1 (errorOf I cpp)
   unfolding errorOf cpeOf
   initial-is = initial-within (tilingOf I) (sceneOf I) (cppOf I cpp) (limits I ok) (scene-fits I ok) scene-inks store-is
-
-  colour-number : {c : YyCxCz} → ColourWithin errorExponent 1 c → ColourNumbers c
-  colour-number w = record { yy = number (w .yy); cx = number (w .cx); cz = number (w .cz) }
 
   errors-are : (x y : ℕ) → x < I .width → y < I .height → ColourNumbers (errorAt (I .width) (sceneOf I) x y)
   unfolding tilingOf

@@ -1,29 +1,28 @@
 -- The plain walk of an accepted input, and a tile on any window: numbers all through. Assumes nothing.
-use Prim.Native.Nat.{ℕ, _+_, _-_, _*_, _≤_, _<_}
+use Prim.Native.Nat.{ℕ, _*_, _≤_, _<_}
 use native.Mathlib.Omega.{arith}
-use mathlib.Core.Path.{_≡_, refl, sym, ap, _∙_, subst}
+use mathlib.Core.Path.{_≡_, refl}
 use mathlib.Core.List.{List}
 use lib.Dec.{lit≤}
 use lib.ListN.{length}
 use lib.Ieee.{Float}
 use Rattle.base.specs.declared.Rect.{Rect}
 use Rattle.base.specs.Grid.{area}
-use Rattle.base.specs.Loop.{upTo}
 use Rattle.base.specs.Refusal.{judge, accepted}
 use Rattle.tiling.specs.Tiling.{image, tile, tiles}
 use Rattle.search.specs.Shared.{Shared}
 use Rattle.tile.specs.Tile.{State, state, refineTile, noProgress, Covers}
 use Rattle.tile.proofs.Keeps.{Sound}
-use Rattle.walk.specs.Walk.{Refined, refined, walkTry, Walk, walkStart, walkAt}
+use Rattle.walk.specs.Walk.{refined, Walk}
 use Rattle.walk.proofs.Laws.{image-covers}
-use Rattle.bounds.specs.Bound.{Within, AllWithin, countLimit}
+use Rattle.bounds.specs.Bound.{Within, AllWithin}
 use Rattle.bounds.proofs.Within.{number, numbers}
 use Rattle.errorbounds.specs.Errors.{cpeExponent, costExponent}
-use Rattle.walkbounds.specs.Terms.{Steady, visitTerms, tileVisits, cellTerms, errorTerms, tileLimit, walkTileLimit}
+use Rattle.walkbounds.specs.Terms.{Steady, tileVisits, cellTerms, walkTileLimit, midTileLimit, tileLimit}
 use Rattle.walkbounds.proofs.Tiles.{Visited, at-rest, tile-visited, tile-weighed}
 use Rattle.walkbounds.proofs.Walks.{tile-sides, few-terms, Walked, tiles-walked, phases-walked}
 use Rattle.input.specs.Input.{Input, inputTests}
-use Rattle.prepare.specs.Prepare.{tilingOf, inksOf, cppOf, cpeOf, errorOf, sharedOf, runOne}
+use Rattle.prepare.specs.Prepare.{tilingOf, cpeOf, errorOf, sharedOf, runOne}
 use Rattle.prepare.proofs.Laws.{start-ready}
 use Rattle.finite.specs.Finite.{TileNumbers, tileStart, PhaseNumbers, RunNumbers}
 use Rattle.finite.proofs.Prepared.{prepared, steady, field-is, initial-is}
@@ -88,7 +87,7 @@ module _ (I : Input) (passes : ℕ) (cpp : List Float) (ok : judge (inputTests I
       inside : (t : ℕ) → t < tiles (S .tiling) → TileNumbers S (image (S .tiling)) (tile (S .tiling) t) (tileStart S w t)
       inside t h =
           let q = tiles-walked S g (I .indices) (w .phase) t (omega arith) walkTileLimit (lit≤ tt) (w .now) v in
-          tile-numbers S g (image (S .tiling)) (walkTileLimit + 4096) (lit≤ tt) t (image-covers (S .tiling) t h) _ _ (I .indices) (q .sound) (q .cpe)
+          tile-numbers S g (image (S .tiling)) midTileLimit (lit≤ tt) t (image-covers (S .tiling) t h) _ _ (I .indices) (q .sound) (q .cpe)
 
   pub run-numbers : RunNumbers I passes cpp
   run-numbers = record { prepared = prepared I cpp ok room; phases = λ n. phase-numbers (runOne I passes cpp n) (run-walked n) }

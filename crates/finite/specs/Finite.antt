@@ -10,14 +10,18 @@ use Rattle.base.specs.Grid.{Inside}
 use Rattle.base.specs.Loop.{upTo}
 use Rattle.base.specs.Refusal.{accepted}
 use Rattle.color.specs.declared.YyCxCz.{YyCxCz}
+use Rattle.color.specs.Inks.{inkValues}
+use Rattle.eye.specs.Constants.{alphaLum, alphaChroma}
+use Rattle.eye.specs.Eye.{sigmaPx}
+use Rattle.kernel.specs.Kernel.{gaussianBlur}
 use Rattle.tiling.specs.declared.Tiling.{Tiling}
 use Rattle.tiling.specs.Tiling.{image, tile, region, tiles}
 use Rattle.cpp.specs.declared.Kernel2D.{Kernel2D}
 use Rattle.cpp.specs.Kernel.{size, kernelAt, lumKernel, chromaKernel}
 use Rattle.search.specs.Shared.{Shared}
 use Rattle.tile.specs.Tile.{State, state, refineTile, noProgress}
-use Rattle.walk.specs.Walk.{Refined, walkTry, Walk}
-use Rattle.error.specs.Error.{errorAt}
+use Rattle.walk.specs.Walk.{walkTry, Walk}
+use Rattle.error.specs.Error.{scene, errorAt}
 use Rattle.bounds.specs.Number.{Number, Numbers}
 use Rattle.walkbounds.specs.Costs.{Weighed, comesTo}
 use Rattle.input.specs.Input.{Input}
@@ -26,9 +30,8 @@ use Rattle.refine.specs.Refine.{Refinement, refineOf}
 use Rattle.perceived.specs.Perceived.{measureOf}
 use Rattle.job.specs.declared.JobRecord.{JobRecord}
 use Rattle.job.specs.Record.{jobShared}
-use Rattle.job.specs.Copy.{Pixels}
-use Rattle.job.specs.Open.{Opening, openOf}
-use Rattle.job.specs.Work.{workOf}
+use Rattle.job.specs.Open.{Opening, Opened, openOf}
+use Rattle.job.specs.Work.{Worked, workOf}
 use Rattle.job.specs.Runs.{Call, Job, start, after}
 use Rattle.job.specs.Claim.{Fair}
 
@@ -85,13 +88,37 @@ pub record RefinedNumbers (I : Input) (R : Refinement) : Type 0 where
   pub initial : Number (R .stats .«initial_error»)
   pub final : Number (R .stats .«final_error»)
 
+-- ---- what measure reads and answers: ink values, errors and both blurs of the eye
+
+pub record MeasuredNumbers (I : Input) : Type 0 where
+  pub inks : Numbers (inkValues (I .palette))
+  pub errors : (x y : ℕ) → x < I .width → y < I .height → ColourNumbers (errorAt (I .width) (scene (I .pixels) (I .indices) [] (inkValues (I .palette))) x y)
+  pub lum : Numbers (gaussianBlur (sigmaPx alphaLum (I .params)))
+  pub chroma : Numbers (gaussianBlur (sigmaPx alphaChroma (I .params)))
+  pub error : Number (measureOf I .error)
+
 -- ---- the job
 
--- an accepted work call on the copy that a tile's last take gave, with a record that open or a call returned
-abbrev pub WorkNumbers : Opening → Job → ℕ → JobRecord → Type 0
-WorkNumbers O J t r =
-    workOf r t (O .input .pinned) (openOf O .cpp) (J .last t) (openOf O .inks) .status ≡ accepted →
-    TileNumbers (jobShared r (O .input .pinned) (openOf O .inks) (openOf O .cpp)) (region (r .plan .tiling) t) (tile (r .plan .tiling) t) (state (J .last t .cpe) (J .last t .indices) noProgress)
+-- what an open leaves
+pub record OpenedNumbers (I : Input) (a : Opened) : Type 0 where
+  pub cpe : Numbers (a .cpe)
+  pub kernels : StoreNumbers (tilingOf I) (a .cpp)
+  pub deltas : Numbers (a .deltas)
+  pub inks : Numbers (a .inks)
+  pub initial : Number (a .rec .plan .initial)
+  pub error : Number (a .rec .error)
+
+-- what a work call makes of the copy that tile t's last take gave, and the costs that it weighs
+abbrev pub workAt : Opening → Job → ℕ → JobRecord → Worked
+workAt O J t r = workOf r t (O .input .pinned) (openOf O .cpp) (J .last t) (openOf O .inks)
+
+pub record WorkNumbers (O : Opening) (J : Job) (t : ℕ) (r : JobRecord) : Type 0 where
+  pub cpe : Numbers (workAt O J t r .made .cpe)
+  pub delta : Number (workAt O J t r .made .progress .delta)
+  pub costs : (x y : ℕ) → Inside (tile (r .plan .tiling) t) x y →
+      let S = jobShared r (O .input .pinned) (openOf O .inks) (openOf O .cpp) in
+      let W = region (r .plan .tiling) t in
+      Weighed S W x y (comesTo S W (tile (r .plan .tiling) t) x y (state (J .last t .cpe) (J .last t .indices) noProgress))
 
 pub record JobNumbers (O : Opening) (J : Job) : Type 0 where
   pub cpe : Numbers (J .image .cpe)
@@ -99,7 +126,8 @@ pub record JobNumbers (O : Opening) (J : Job) : Type 0 where
   pub error : Number (J .rec .error)
   pub initial : Number (J .rec .plan .initial)
   pub copies : (t : ℕ) → Numbers (J .last t .cpe)
-  pub works : (t : ℕ) (r : JobRecord) → List·Memᴰ r (J .seen) → WorkNumbers O J t r
+  -- by an accepted work call that is given a record which open or a call returned
+  pub works : (t : ℕ) (r : JobRecord) → List·Memᴰ r (J .seen) → workAt O J t r .status ≡ accepted → WorkNumbers O J t r
 
 -- after each call of the list
 unfoldable pub AlongNumbers : Opening → Job → List Call → Type 0
@@ -108,6 +136,7 @@ AlongNumbers O J (c ∷ cs) = JobNumbers O (after J c) × AlongNumbers O (after 
 
 pub record JobRunNumbers (O : Opening) : Type 0 where
   pub run : RunNumbers (O .input) (O .passes) (O .cpp)
+  pub left : OpenedNumbers (O .input) (openOf O)
   pub opened : JobNumbers O (start O)
   pub calls : (cs : List Call) → Fair O (start O) cs → AlongNumbers O (start O) cs
 
@@ -116,6 +145,5 @@ pub record JobRunNumbers (O : Opening) : Type 0 where
 pub record Finiteness : Type 0 where
   pub refines : (I : Input) (passes : ℕ) (cpe cpp : List Float) (counts : List ℕ) (inks : List Float) → refineOf I passes cpe cpp counts inks .stats .number ≡ 0 →
       RunNumbers I passes cpp × RefinedNumbers I (refineOf I passes cpe cpp counts inks)
-  -- a refused measure answers 0.0
-  pub measures : (I : Input) → Number (measureOf I .error)
+  pub measures : (I : Input) → measureOf I .number ≡ 0 → MeasuredNumbers I
   pub jobs : (O : Opening) → openOf O .status ≡ accepted → JobRunNumbers O

@@ -1,7 +1,7 @@
 -- The light of any byte is at most 1, so XYZ values are at most 3, and a colour's channels at most 2^13. Assumes nothing.
-use Prim.Native.Nat.{ℕ, zero, suc, _+_, _*_, _/_, _%_, _^_, _≤_, _<_}
-use mathlib.Core.Path.{_≡_, refl, sym, ap, _∙_, subst}
-use mathlib.Core.Bool.{Bool, true, false, _&&_}
+use Prim.Native.Nat.{ℕ, zero, suc, _+_, _*_, _/_, _%_, _≤_}
+use mathlib.Core.Path.{_≡_, refl, subst}
+use mathlib.Core.Bool.{Bool, true, false}
 use mathlib.Core.List.{List}
 use native.Mathlib.Omega.{arith}
 use lib.Dec.{T, ltb, leb, leb→le, lit≤, lit<}
@@ -9,16 +9,13 @@ use lib.ListN.{length, getD, List·getD-eq-default}
 use lib.Ieee.{Float, nan, inf, fin, binary64, up, down, fits, ofBits, round, ofInt, add}
 use borrow.Author.Tests.{ltb-true, ltb-false}
 use lib.Ieee.Bits.{ofBits-fits}
-use lib.Ieee.Fits.{ofInt-fits, round-fits}
-use Rattle.base.specs.F64.{f64, wholef, _+f_, _-f_, _*f_, _/f_}
-use Rattle.base.specs.Loop.{table}
+use Rattle.base.specs.F64.{f64, wholef, _/f_}
 use Rattle.bounds.specs.Bound.{Sized, Within, AllWithin, Apart}
-use Rattle.bounds.proofs.Within.{wider, more, add-within, sub-within, mul-within, div-within}
+use Rattle.bounds.proofs.Within.{wider, add-within, sub-within, mul-within, div-within}
 use Rattle.bounds.proofs.Sums.{table-within}
 use Rattle.color.specs.declared.YyCxCz.{YyCxCz}
-use Rattle.color.specs.Decimal.{decimal}
 use Rattle.color.specs.Lut.{srgbToLinear, linear}
-use Rattle.color.specs.YyCxCz.{Row, rowX, rowY, rowZ, rowTimes, rowSum, fromXyz, yycxcz}
+use Rattle.color.specs.YyCxCz.{Row, rowX, rowY, rowZ, rowTimes, rowSum, yycxcz}
 use Rattle.color.specs.Inks.{channel, ink, inkValue, inkValues}
 use Rattle.color.proofs.Every.{every, at}
 use Rattle.inkbounds.specs.Inks.{inkExponent, ColourWithin}
@@ -93,9 +90,9 @@ colour-within r g b =
     let y = row-within rowY Y (linear r) (linear g) (linear b) (light-within r) (light-within g) (light-within b) in
     let z = row-within rowZ Z (linear r) (linear g) (linear b) (light-within r) (light-within g) (light-within b) in
     record {
-      yy = wider 13 1 (lit≤ tt) (div-within 1 (rowSum rowY) (mul-within (factors .0) y (lit< tt) (lit≤ tt)) (Y .sum) (lit< tt) (lit≤ tt));
-      cx = wider 13 1 (lit≤ tt) (mul-within (factors .1) (sub-within (over-white rowX X x) (over-white rowY Y y) (lit< tt) (lit≤ tt)) (lit< tt) (lit≤ tt));
-      cz = wider 13 1 (lit≤ tt) (mul-within (factors .2) (sub-within (over-white rowY Y y) (over-white rowZ Z z) (lit< tt) (lit≤ tt)) (lit< tt) (lit≤ tt));
+      yy = wider inkExponent 1 (lit≤ tt) (div-within 1 (rowSum rowY) (mul-within (factors .0) y (lit< tt) (lit≤ tt)) (Y .sum) (lit< tt) (lit≤ tt));
+      cx = wider inkExponent 1 (lit≤ tt) (mul-within (factors .1) (sub-within (over-white rowX X x) (over-white rowY Y y) (lit< tt) (lit≤ tt)) (lit< tt) (lit≤ tt));
+      cz = wider inkExponent 1 (lit≤ tt) (mul-within (factors .2) (sub-within (over-white rowY Y y) (over-white rowZ Z z) (lit< tt) (lit≤ tt)) (lit< tt) (lit≤ tt));
     }
 
 pub channel-within : {b k : ℕ} {v : YyCxCz} (c : ℕ) → ColourWithin b k v → Within b k (channel c v)

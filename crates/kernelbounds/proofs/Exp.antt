@@ -7,7 +7,6 @@ use mathlib.Core.Bool.{true, false}
 use lib.Dec.{lit≤, lit<}
 use lib.Ieee.{Float, ofBits}
 use Rattle.base.specs.F64.{_*f_, _/f_, wholef, f1}
-use Rattle.base.specs.Loop.{upTo}
 use Rattle.base.proofs.LoopLaws.{upTo-keeps}
 use Rattle.bounds.specs.Bound.{Ranged, Least, countLimit}
 use Rattle.bounds.proofs.Ranges.{mul-ranged, mul-least, div-ranged, less-ranged, less-least, whole-one}

@@ -1,10 +1,10 @@
 -- The Gaussian values of a width lie from 0 to 1, the one at the centre is 1, so their sum is at least 1 and the blur's values lie from 0 to 1.
 -- Assumes nothing.
-use Prim.Native.Nat.{ℕ, zero, suc, _+_, _-_, _*_, _/_, _%_, _≤_, _<_}
+use Prim.Native.Nat.{ℕ, zero, suc, _+_, _*_, _/_, _%_, _≤_, _<_}
 use native.Mathlib.Omega.{arith}
 use native.Mathlib.Nat.{div-lt-iff-lt-mul, mod-lt}
 use native.Mathlib.Decide.{ℕ-discrete}
-use mathlib.Core.Path.{_≡_, refl, sym, ap, _∙_, subst}
+use mathlib.Core.Path.{_≡_, refl, sym, subst}
 use mathlib.Core.Logic.{_⊎_, inl, inr, ⊎-elim}
 use mathlib.Core.Bool.{Bool, true, false, _&&_}
 use mathlib.Core.List.{List}
@@ -13,14 +13,12 @@ use lib.ListN.{length, getD}
 use lib.Ieee.{Float, nan, inf, fin, binary64, up, down, neg, round, ofInt, add, sub, mul, ofBits}
 use lib.Ieee.Fits.{and-l, and-r, div-fits}
 use Rattle.base.specs.F64.{_+f_, _-f_, _*f_, _/f_, wholef, f0, f2}
-use Rattle.base.specs.Loop.{upTo, table}
 use Rattle.base.proofs.Bounds.{product-le}
 use Rattle.base.proofs.LoopLaws.{upTo-ind}
 use Rattle.base.proofs.TableLaws.{length-table, getD-table}
 use Rattle.bounds.specs.Bound.{Ranged, Least, Within, AllWithin}
 use Rattle.bounds.proofs.Ranges.{neg-ranged, mul-ranged, mul-least, div-ranged, add-ranged, add-least, ranged-within}
 use Rattle.bounds.proofs.Sums.{table-within}
-use Rattle.eye.specs.Exp.{expOf}
 use Rattle.eye.specs.Eye.{blurRadius}
 use Rattle.kernel.specs.Kernel.{side, gaussianAt, gaussianLine, sumOf, blurAt, blurOf, gaussianBlur}
 use Rattle.kernelbounds.specs.Kernels.{Fitting}

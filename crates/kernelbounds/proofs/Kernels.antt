@@ -1,25 +1,24 @@
 -- A kernel's values are sums of at most 33 · 33 products of two blur values, so they are at most 2^11. Assumes nothing.
-use Prim.Native.Nat.{ℕ, zero, suc, _+_, _-_, _*_, _/_, _%_, _≤_, _<_}
+use Prim.Native.Nat.{ℕ, _+_, _-_, _*_, _/_, _%_, _≤_, _<_}
 use native.Mathlib.Omega.{arith}
 use native.Mathlib.Nat.{div-lt-iff-lt-mul, mod-lt}
-use mathlib.Core.Path.{_≡_, refl, sym, ap, _∙_, subst}
+use mathlib.Core.Path.{_≡_}
 use mathlib.Core.List.{List}
 use lib.Dec.{lit≤, lit<}
 use lib.ListN.{length, getD}
-use lib.Ieee.{Float, nan, fits, ofBits}
+use lib.Ieee.{Float, nan}
 use Rattle.base.specs.Refusal.{judge, accepted}
-use Rattle.base.specs.F64.{_+f_, _*f_, f0}
-use Rattle.base.specs.Loop.{fromTo, table}
+use Rattle.base.specs.F64.{f0}
 use Rattle.bounds.specs.Bound.{Within, AllWithin}
-use Rattle.bounds.proofs.Within.{wider, add-within, mul-within}
+use Rattle.bounds.proofs.Within.{zero-within, wider, add-within, mul-within}
 use Rattle.bounds.proofs.Sums.{rise, fromTo-grown, table-within}
 use Rattle.eye.specs.declared.DbsParams.{DbsParams}
 use Rattle.eye.specs.Constants.{alphaLum, alphaChroma}
 use Rattle.eye.specs.Eye.{sigmaPx, blurRadius, kernelRadius, eyeTests}
 use Rattle.eye.proofs.EyeLaws.{narrow-both, wide-both, eye-passes, radii-fit}
-use Rattle.kernel.specs.Kernel.{side, values, entry, overlapFrom, overlapTo, rowSum, correlationAt, autocorrelation, gaussianBlur, kernelOf, lumBase, chromaBase, eyeKernels}
+use Rattle.kernel.specs.Kernel.{side, values, overlapFrom, overlapTo, rowSum, correlationAt, autocorrelation, gaussianBlur, kernelOf, lumBase, chromaBase, eyeKernels}
 use Rattle.kernel.specs.Ready.{Row}
-use Rattle.kernel.proofs.OverlapLaws.{Term, term}
+use Rattle.kernel.proofs.OverlapLaws.{term}
 use Rattle.kernel.proofs.KernelLaws.{length-kernel, lum-value, chroma-value}
 use Rattle.kernelbounds.specs.Kernels.{Fitting, kernelExponent}
 use Rattle.kernelbounds.proofs.Gauss.{blur-within, length-blur}
@@ -45,15 +44,11 @@ module _ (p : List Float) (r : ℕ) (few : r ≤ 16) (square : length p ≡ valu
       add-within u (mul-within (w _ (q .here)) (w _ (q .there)) (lit< tt) (lit≤ tt)) (below m k h l) (lit≤ tt))
       s v
 
-  zero-within : Within 0 0 f0
-  unfolding ofBits fits
-  zero-within = record { sized = lit≤ tt; fits = tt }
-
   pub correlation-within : Within kernelExponent 1 (correlationAt p r i j)
   unfolding correlationAt
   correlation-within =
-      wider 11 1 (lit≤ tt)
-      (fromTo-grown (Within 0) (rise 0) (33 * 1) 33 0 (overlapFrom r j) (overlapTo r j) (rowSum p r i j) (few-terms r j few) (λ y m a b h s v. row-within y m a b h s v) f0 zero-within)
+      wider kernelExponent 1 (lit≤ tt)
+      (fromTo-grown (Within 0) (rise 0) (33 * 1) 33 0 (overlapFrom r j) (overlapTo r j) (rowSum p r i j) (few-terms r j few) (λ y m a b h s v. row-within y m a b h s v) f0 (zero-within 0))
 
 pub kernel-within : (sigma : Float) → Fitting sigma → AllWithin kernelExponent 1 (kernelOf sigma)
 unfolding kernelOf autocorrelation

@@ -1,18 +1,18 @@
 -- The divisor 2σσ of the Gaussian's exponent for a width that row 9 lets pass: it is at least 1/4, or at least 1/256 and the reach is at most 2.
 -- For σ is at least 1/2, or it lies from 0.05 to 1/2, so that 2.5σ is at most 1.25. Assumes nothing.
-use Prim.Native.Nat.{ℕ, _+_, _-_, _*_, _≤_, _<_, max}
+use Prim.Native.Nat.{ℕ, _*_, _≤_, _<_, max}
 use native.Mathlib.Omega.{arith}
-use native.Mathlib.Nat.{le-trans, le-of-eq, mul-comm, mul-assoc, mul-left-comm, mul-right-comm, mul-le-mul-right, le-of-mul-le-mul-right}
-use mathlib.Core.Path.{_≡_, refl, sym, ap, _∙_}
+use native.Mathlib.Nat.{le-trans, le-of-eq, mul-right-comm, mul-le-mul-right, le-of-mul-le-mul-right}
+use mathlib.Core.Path.{_≡_, refl}
 use mathlib.Core.Logic.{_⊎_, inl, inr}
-use mathlib.Core.Bool.{Bool, true, false, not, true≢false}
+use mathlib.Core.Bool.{Bool, true, false}
 use borrow.Author.Tests.{leb-true, leb-false}
-use lib.Dec.{T, leb, lt→ltb, lit≤, lit<}
+use lib.Dec.{T, leb, lt→ltb, lit≤}
 use lib.IntN.{ℤ}
-use lib.Ieee.{Float, nan, inf, fin, binary64, up, down, le, mul, ofBits, round}
+use lib.Ieee.{Float, nan, inf, fin, binary64, up, down, le, mul, ofBits}
 use lib.Ieee.Fits.{down-pos}
 use lib.Ieee.Order.{le-of-values}
-use lib.Ieee.Positive.{num, den, positive, above-of-le, between, mul-mono, le→cross, first-pos, through, den-pos}
+use lib.Ieee.Positive.{num, den, positive, above-of-le, between, mul-mono, le→cross, first-pos, den-pos}
 use Rattle.base.specs.F64.{f64, _*f_, f2}
 use Rattle.eye.specs.Constants.{sigmaMin, truncationMax, truncationSigmas}
 use Rattle.eye.specs.Ceil.{ceil, ceil-least}

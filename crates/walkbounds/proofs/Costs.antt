@@ -1,42 +1,40 @@
 -- Every cost that is weighed is at most 2^97, and so is the best one's. Assumes nothing.
-use Prim.Native.Nat.{ℕ, _+_, _*_, _^_, _≤_, _<_}
+use Prim.Native.Nat.{ℕ, _*_, _^_, _≤_, _<_}
 use native.Mathlib.Omega.{arith}
-use mathlib.Core.Path.{_≡_, refl, sym, ap, _∙_, subst}
+use mathlib.Core.Path.{_≡_, refl}
 use mathlib.Core.Bool.{Bool, true, false, cond}
 use mathlib.Core.List.{List}
 use lib.Dec.{lit≤, lit<, eqb}
 use lib.ListN.{length}
 use lib.Ieee.{Float, nan, neg, lt, fits, ofBits}
-use borrow.Author.Tests.{eqb-false}
 use Rattle.base.specs.declared.Rect.{Rect}
 use Rattle.base.specs.Grid.{area, Inside, place, cell}
-use Rattle.base.specs.F64.{f0, f2, _+f_, _-f_, _*f_}
+use Rattle.base.specs.F64.{f2, _-f_}
 use Rattle.base.proofs.GridLaws.{place-lt}
 use Rattle.base.proofs.LoopLaws.{upTo-ind}
 use Rattle.color.specs.declared.YyCxCz.{YyCxCz}
-use Rattle.color.specs.Values.{lessOf, negOf}
-use Rattle.tiling.specs.declared.Tiling.{Tiling}
+use Rattle.color.specs.Values.{lessOf}
 use Rattle.neighbour.specs.Neighbour.{neighbourOf}
 use Rattle.neighbour.specs.declared.Adjacent.{Adjacent}
 use Rattle.neighbour.specs.declared.Adjacent.the-variants.{Pixel, Outside}
-use Rattle.neighbour.proofs.Laws.{Beside, Beyond, near-by}
+use Rattle.neighbour.proofs.Laws.{Beyond, near-by}
 use Rattle.cpp.specs.declared.Kernel2D.{Kernel2D}
-use Rattle.cpp.specs.Kernel.{size, kernelAt, lumKernel, chromaKernel}
+use Rattle.cpp.specs.Kernel.{size, lumKernel, chromaKernel}
 use Rattle.search.specs.declared.Best.{Best}
 use Rattle.search.specs.declared.Site.{Site}
 use Rattle.search.specs.declared.Move.{Move}
 use Rattle.search.specs.declared.Move.the-variants.{Stay, Toggle, Swap}
 use Rattle.search.specs.Shared.{Shared, inkAt, cpeAt, indexAt, Named, Held}
-use Rattle.search.specs.Search.{centreOf, valueOf, besideOf, centres, gaps, toggleTerm, swapTerm, total, toggleCost, swapCost, betterOf, noMove, siteAt, tryToggle, toggles, partnerOf, swapWith, trySwap, swaps, evaluateOf, Partner, Fair}
+use Rattle.search.specs.Search.{centreOf, valueOf, besideOf, centres, gaps, toggleTerm, swapTerm, total, toggleCost, swapCost, betterOf, noMove, siteAt, tryToggle, toggles, partnerOf, swapWith, trySwap, swaps, evaluateOf, Fair}
 use Rattle.search.proofs.AllEight.{Found, centre-found}
 use Rattle.search.proofs.Laws.{held-inside, neighbour-inside, partner-is, index-named}
 use Rattle.bounds.specs.Bound.{Within, AllWithin, countLimit}
-use Rattle.bounds.proofs.Within.{wider, more, add-within, sub-within, mul-within, neg-within}
+use Rattle.bounds.proofs.Within.{zero-within, wider, more, add-within, sub-within, mul-within}
 use Rattle.inkbounds.specs.Inks.{ColourWithin, inkExponent}
 use Rattle.kernelbounds.specs.Kernels.{kernelExponent}
-use Rattle.errorbounds.specs.Errors.{errorExponent, cpeExponent, costExponent, KernelWithin, StoreWithin}
-use Rattle.errorbounds.proofs.Errors.{zero-within, values-within, less-within}
-use Rattle.walkbounds.specs.Costs.{toggleCostTo, swapCostWith, swapCostOf, costOf}
+use Rattle.errorbounds.specs.Errors.{errorExponent, cpeExponent, costExponent, KernelWithin}
+use Rattle.errorbounds.proofs.Errors.{values-within, less-within}
+use Rattle.walkbounds.specs.Costs.{toggleCostTo, swapCostWith, costOf}
 use Rattle.walkbounds.specs.Terms.{Steady}
 
 -- ---- the formulas, for `cpe` values of at most 2^78
@@ -57,7 +55,7 @@ swap-term g a c n =
 
 -- three terms of at most 3 · 2^93
 total-within : {x y z : Float} → Within 93 3 x → Within 93 3 y → Within 93 3 z → Within costExponent 1 (total x y z)
-total-within x y z = wider 97 1 (lit≤ tt) (add-within (add-within (add-within (zero-within 93) x (lit< tt) (lit≤ tt)) y (lit< tt) (lit≤ tt)) z (lit< tt) (lit≤ tt))
+total-within x y z = wider costExponent 1 (lit≤ tt) (add-within (add-within (add-within (zero-within 93) x (lit< tt) (lit≤ tt)) y (lit< tt) (lit≤ tt)) z (lit< tt) (lit≤ tt))
 
 toggle-cost : {p a c : YyCxCz} → ColourWithin 11 1 p → ColourWithin 14 1 a → ColourWithin 78 1 c → Within costExponent 1 (toggleCost p a c)
 unfolding toggleCost

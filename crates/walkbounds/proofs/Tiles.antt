@@ -2,11 +2,10 @@
 -- number. Assumes nothing.
 use Prim.Native.Nat.{ℕ, _+_, _-_, _*_, _≤_, _<_}
 use native.Mathlib.Omega.{arith}
-use mathlib.Core.Path.{_≡_, refl, sym, ap, _∙_, subst}
+use mathlib.Core.Path.{_≡_}
 use mathlib.Core.Bool.{Bool, true, false, cond}
 use mathlib.Core.List.{List}
-use lib.Dec.{lit≤, lit<}
-use lib.ListN.{length}
+use lib.Dec.{lit≤}
 use lib.Ieee.{Float}
 use Rattle.base.specs.declared.Rect.{Rect}
 use Rattle.base.specs.Grid.{area, Inside}
@@ -16,24 +15,29 @@ use Rattle.search.specs.declared.Best.{Best}
 use Rattle.search.specs.declared.Move.{Move}
 use Rattle.search.specs.declared.Move.the-variants.{Stay, Toggle, Swap}
 use Rattle.search.specs.Shared.{Shared, Held}
-use Rattle.search.specs.Search.{noMove, evaluateOf, Fair}
+use Rattle.search.specs.Search.{noMove, evaluateOf}
 use Rattle.search.proofs.Laws.{evaluate-fair}
 use Rattle.moves.specs.declared.Progress.{Progress}
 use Rattle.moves.specs.Moves.{counted}
 use Rattle.tile.specs.Tile.{State, state, applied, visitOf, refineRow, refineTile, noProgress, Covers}
 use Rattle.tile.proofs.Keeps.{Sound, visit-sound, covers-held}
-use Rattle.bounds.specs.Number.{Number}
 use Rattle.bounds.specs.Bound.{Within, AllWithin, countLimit}
-use Rattle.bounds.proofs.Within.{more, add-within, number}
-use Rattle.bounds.proofs.Sums.{rise, rise-all, fromTo-grown}
+use Rattle.bounds.proofs.Within.{zero-within, more, add-within, number}
+use Rattle.bounds.proofs.Sums.{rise-all, fromTo-grown}
 use Rattle.errorbounds.specs.Errors.{cpeExponent, costExponent}
-use Rattle.errorbounds.proofs.Errors.{zero-within}
-use Rattle.walkbounds.specs.Costs.{costOf, Weighed, comesTo}
-use Rattle.walkbounds.specs.Terms.{Steady, visitTerms, tileVisits, tileTerms}
+use Rattle.walkbounds.specs.Costs.{Weighed, comesTo}
+use Rattle.walkbounds.specs.Terms.{Steady, visitTerms, tileVisits, visitLimit}
 use Rattle.walkbounds.proofs.Costs.{cost-within, best-within}
 use Rattle.walkbounds.proofs.Sweeps.{moved-within}
 
-module _ (S : Shared) (g : Steady S) (W : Rect) (i₀ : List ℕ) (k : ℕ) (few : k + 4600 * visitTerms < countLimit) where
+-- a part of a row, or of the rows
+shorter : (a b c : ℕ) → b ≤ c → c - a ≤ 67 → b - a ≤ 67
+shorter a b c h k = omega arith
+
+inside : (u b c : ℕ) → u < b → b ≤ c → u < c
+inside u b c h k = omega arith
+
+module _ (S : Shared) (g : Steady S) (W : Rect) (i₀ : List ℕ) (k : ℕ) (few : k + visitLimit * visitTerms < countLimit) where
   -- after m visits
   pub record Visited (m : ℕ) (s : State) : Type 0 where
     pub sound : Sound S W i₀ (3 * area W) s
@@ -54,7 +58,7 @@ module _ (S : Shared) (g : Steady S) (W : Rect) (i₀ : List ℕ) (k : ℕ) (few
   counted-within m (Toggle j) cost p h d c = add-within d c h (lit≤ tt)
   counted-within m (Swap code) cost p h d c = add-within d c h (lit≤ tt)
 
-  module _ (x y : ℕ) (h : Held (S .tiling) W x y) (m : ℕ) (l : m + 1 ≤ 4600) (s : State) (v : Visited m s) where
+  module _ (x y : ℕ) (h : Held (S .tiling) W x y) (m : ℕ) (l : m + 1 ≤ visitLimit) (s : State) (v : Visited m s) where
     under : k + m * visitTerms < countLimit
     under = omega (arith, few, l)
 
@@ -102,21 +106,15 @@ module _ (S : Shared) (g : Steady S) (W : Rect) (i₀ : List ℕ) (k : ℕ) (few
     held x y a b p q = covers-held (S .tiling) W Q x y c (record { left = a; right = b; top = p; bottom = q })
 
     -- its row y up to column x
-    part-visited : (y x : ℕ) → Q .y0 ≤ y → y < Q .y1 → x ≤ Q .x1 → (m : ℕ) → m + 67 * 1 ≤ 4600 → (s : State) → Visited m s → Visited (m + 67 * 1) (fromTo (Q .x0) x (λ x. visitOf S W x y) s)
+    part-visited : (y x : ℕ) → Q .y0 ≤ y → y < Q .y1 → x ≤ Q .x1 → (m : ℕ) → m + 67 * 1 ≤ visitLimit → (s : State) → Visited m s → Visited (m + 67 * 1) (fromTo (Q .x0) x (λ x. visitOf S W x y) s)
     part-visited y x p q r m l s v =
         fromTo-grown Visited more-visits 1 67 m (Q .x0) x (λ x. visitOf S W x y) (shorter (Q .x0) x (Q .x1) r wide)
         (λ u n a b z t w. visited u y (held u y a (inside u x (Q .x1) b r) p q) n (through n m z l) t w) s v
       where
-        shorter : (a b c : ℕ) → b ≤ c → c - a ≤ 67 → b - a ≤ 67
-        shorter a b c h k = omega arith
-
-        inside : (u b c : ℕ) → u < b → b ≤ c → u < c
-        inside u b c h k = omega arith
-
-        through : (n m : ℕ) → n + 1 ≤ m + 67 * 1 → m + 67 * 1 ≤ 4600 → n + 1 ≤ 4600
+        through : (n m : ℕ) → n + 1 ≤ m + 67 * 1 → m + 67 * 1 ≤ visitLimit → n + 1 ≤ visitLimit
         through n m z l = omega arith
 
-    row-visited : (y : ℕ) → Q .y0 ≤ y → y < Q .y1 → (m : ℕ) → m + 67 * 1 ≤ 4600 → (s : State) → Visited m s → Visited (m + 67 * 1) (refineRow S W Q y s)
+    row-visited : (y : ℕ) → Q .y0 ≤ y → y < Q .y1 → (m : ℕ) → m + 67 * 1 ≤ visitLimit → (s : State) → Visited m s → Visited (m + 67 * 1) (refineRow S W Q y s)
     unfolding refineRow
     row-visited y p q m l s v = part-visited y (Q .x1) p q (omega arith) m l s v
 
@@ -126,13 +124,7 @@ module _ (S : Shared) (g : Steady S) (W : Rect) (i₀ : List ℕ) (k : ℕ) (few
         fromTo-grown Visited more-visits (67 * 1) 67 0 (Q .y0) y (refineRow S W Q) (shorter (Q .y0) y (Q .y1) r high)
         (λ u n a b z t w. row-visited u a (inside u y (Q .y1) b r) n (through n z) t w) s v
       where
-        shorter : (a b c : ℕ) → b ≤ c → c - a ≤ 67 → b - a ≤ 67
-        shorter a b c h k = omega arith
-
-        inside : (u b c : ℕ) → u < b → b ≤ c → u < c
-        inside u b c h k = omega arith
-
-        through : (n : ℕ) → n + 67 * 1 ≤ 0 + 67 * (67 * 1) → n + 67 * 1 ≤ 4600
+        through : (n : ℕ) → n + 67 * 1 ≤ 0 + 67 * (67 * 1) → n + 67 * 1 ≤ visitLimit
         through n z = omega arith
 
     pub tile-visited : (s : State) → Visited 0 s → Visited tileVisits (refineTile S W Q s)
@@ -143,7 +135,7 @@ module _ (S : Shared) (g : Steady S) (W : Rect) (i₀ : List ℕ) (k : ℕ) (few
     pub tile-weighed : (s : State) → Visited 0 s → (x y : ℕ) → Inside Q x y → Weighed S W x y (comesTo S W Q x y s)
     unfolding comesTo
     tile-weighed s v x y i =
-        weighed x y (held x y (i .left) (i .right) (i .top) (i .bottom)) 4556 (lit≤ tt) _
+        weighed x y (held x y (i .left) (i .right) (i .top) (i .bottom)) (tileVisits + 67 * 1) (lit≤ tt) _
         (part-visited y x (i .top) (i .bottom) (omega (arith, i .right)) tileVisits (lit≤ tt) _ (rows-visited y (omega (arith, i .bottom)) s v))
 
   -- ---- from rest

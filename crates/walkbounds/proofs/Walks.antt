@@ -2,31 +2,30 @@
 -- each of at most 4,000 phases. Assumes nothing.
 use Prim.Native.Nat.{ℕ, zero, suc, _+_, _-_, _*_, _≤_, _<_, min}
 use native.Mathlib.Omega.{arith}
-use mathlib.Core.Path.{_≡_, refl, sym, ap, _∙_, subst}
-use mathlib.Core.Logic.{_⊎_, inl, inr, ⊎-elim}
+use mathlib.Core.Path.{_≡_, refl, subst}
+use mathlib.Core.Logic.{⊎-elim}
 use mathlib.Core.Bool.{Bool, true, false, cond}
 use mathlib.Core.List.{List}
-use lib.Dec.{lit≤, lit<, eqb}
-use lib.ListN.{length}
+use lib.Dec.{lit≤, eqb}
 use lib.Ieee.{Float}
 use Rattle.base.specs.declared.Rect.{Rect}
 use Rattle.base.specs.Grid.{area, Inside}
 use Rattle.base.specs.Loop.{upTo}
 use Rattle.tiling.specs.declared.Tiling.{Tiling}
 use Rattle.tiling.specs.Tiling.{Limits, image, side, tileX, tileY, tile, tiles, inPhase}
-use Rattle.tiling.proofs.Sizes.{Sizes, sizes}
-use Rattle.search.specs.Shared.{Shared, Ready}
+use Rattle.tiling.proofs.Sizes.{sizes}
+use Rattle.search.specs.Shared.{Shared}
 use Rattle.tile.specs.Tile.{State, state, refineTile, noProgress}
-use Rattle.walk.specs.Walk.{Refined, refined, joined, walkTile, walkTry, walkTiles, Walk, passEnd, phaseEnd, walkPhase, walkStart, walkAt}
+use Rattle.walk.specs.Walk.{Refined, refined, joined, walkTile, walkTry, walkTiles, Walk, passEnd, walkPhase, walkStart, walkAt}
 use Rattle.walk.proofs.Laws.{SoundImage, image-covers, walkTile-sound}
 use Rattle.walk.proofs.Passes.{phase-ended}
 use Rattle.walk.proofs.Ends.{Going, Over, walk-stage}
 use Rattle.bounds.specs.Bound.{Within, AllWithin, countLimit}
 use Rattle.bounds.proofs.Within.{more, add-within}
 use Rattle.bounds.proofs.Sums.{rise-all, upTo-grown}
-use Rattle.errorbounds.specs.Errors.{cpeExponent, costExponent, fieldTerms}
+use Rattle.errorbounds.specs.Errors.{cpeExponent, costExponent}
 use Rattle.walkbounds.specs.Costs.{Weighed, comesTo}
-use Rattle.walkbounds.specs.Terms.{Steady, visitTerms, tileVisits, tileTerms, cellTerms, errorTerms, tileLimit, walkTileLimit}
+use Rattle.walkbounds.specs.Terms.{Steady, visitTerms, tileVisits, visitLimit, cellTerms, errorTerms, phaseTiles, walkTileLimit, midTileLimit, tileLimit}
 use Rattle.walkbounds.proofs.Tiles.{Visited, at-rest, tile-visited, tile-weighed}
 
 -- a tile is at most 67 pixels wide and high
@@ -38,7 +37,7 @@ tile-sides T l t = let s = sizes T l .side-limit in (short (T .width) (tileX T t
     short n a s h = omega arith
 
 -- the count stays below 2⁵³
-pub few-terms : (m : ℕ) → m ≤ tileLimit → cellTerms m + 4600 * visitTerms < countLimit
+pub few-terms : (m : ℕ) → m ≤ tileLimit → cellTerms m + visitLimit * visitTerms < countLimit
 few-terms m h = omega arith
 
 module _ (S : Shared) (g : Steady S) (i₀ : List ℕ) where
@@ -64,7 +63,7 @@ module _ (S : Shared) (g : Steady S) (i₀ : List ℕ) where
     abbrev start : State
     start = state (r .cpe) (r .indices) noProgress
 
-    few : cellTerms m + 4600 * visitTerms < countLimit
+    few : cellTerms m + visitLimit * visitTerms < countLimit
     few = few-terms m (omega arith)
 
     rest : Visited S g P i₀ (cellTerms m) few 0 start
@@ -99,27 +98,27 @@ module _ (S : Shared) (g : Steady S) (i₀ : List ℕ) where
   one-more false t h m l r w = more-tiles m (m + 1) r (omega arith) w
 
   -- those below n of a set
-  pub some-walked : (D : ℕ → Bool) (n : ℕ) → n ≤ tiles (S .tiling) → (m : ℕ) → m + 4096 ≤ tileLimit → (r : Refined) → Walked m r → Walked (m + 4096) (upTo (λ t r. cond (D t) (walkTile S t r) r) n r)
+  pub some-walked : (D : ℕ → Bool) (n : ℕ) → n ≤ tiles (S .tiling) → (m : ℕ) → m + phaseTiles ≤ midTileLimit → (r : Refined) → Walked m r → Walked (m + phaseTiles) (upTo (λ t r. cond (D t) (walkTile S t r) r) n r)
   some-walked D n h m l r w =
       let c = sizes (S .tiling) (g .limits) .tiles-limit in
-      more-tiles (m + n * 1) (m + 4096) _ (omega arith)
+      more-tiles (m + n * 1) (m + phaseTiles) _ (omega arith)
       (upTo-grown Walked 1 (λ t r. cond (D t) (walkTile S t r) r) n m (λ t k b z q v. one-more (D t) t (omega arith) k (omega (arith, z, c, h, l)) q v) r w)
 
-  pub tiles-walked : (phase n : ℕ) → n ≤ tiles (S .tiling) → (m : ℕ) → m + 4096 ≤ tileLimit → (r : Refined) → Walked m r → Walked (m + 4096) (upTo (walkTry S phase) n r)
+  pub tiles-walked : (phase n : ℕ) → n ≤ tiles (S .tiling) → (m : ℕ) → m + phaseTiles ≤ midTileLimit → (r : Refined) → Walked m r → Walked (m + phaseTiles) (upTo (walkTry S phase) n r)
   unfolding walkTry
   tiles-walked phase n h m l r w = some-walked (inPhase (S .tiling) phase) n h m l r w
 
   -- ---- phases
 
-  phase-walked : (passes m : ℕ) → m + 4096 ≤ tileLimit → (w : Walk) → Walked m (w .now) → Walked (m + 4096) (walkPhase S passes w .now)
+  phase-walked : (passes m : ℕ) → m + phaseTiles ≤ midTileLimit → (w : Walk) → Walked m (w .now) → Walked (m + phaseTiles) (walkPhase S passes w .now)
   unfolding walkPhase walkTiles
   phase-walked passes m l w v = go (w .ended) (eqb (w .phase) 3)
     where
-      r : Walked (m + 4096) (upTo (walkTry S (w .phase)) (tiles (S .tiling)) (w .now))
+      r : Walked (m + phaseTiles) (upTo (walkTry S (w .phase)) (tiles (S .tiling)) (w .now))
       r = tiles-walked (w .phase) (tiles (S .tiling)) (omega arith) m l (w .now) v
 
-      go : (i j : Bool) → Walked (m + 4096) (cond i w (let q = upTo (walkTry S (w .phase)) (tiles (S .tiling)) (w .now) in cond j (passEnd passes (w .counts) q) (record { now = q; counts = w .counts; phase = w .phase + 1; ended = false })) .now)
-      go true j = more-tiles m (m + 4096) (w .now) (omega arith) v
+      go : (i j : Bool) → Walked (m + phaseTiles) (cond i w (let q = upTo (walkTry S (w .phase)) (tiles (S .tiling)) (w .now) in cond j (passEnd passes (w .counts) q) (record { now = q; counts = w .counts; phase = w .phase + 1; ended = false })) .now)
+      go true j = more-tiles m (m + phaseTiles) (w .now) (omega arith) v
       go false true = record { sound = r .sound; cpe = r .cpe; error = r .error }
       go false false = r
 
@@ -136,22 +135,22 @@ module _ (S : Shared) (g : Steady S) (i₀ : List ℕ) where
     start-walked w = w
 
     -- a walk that is over stays, and one that goes on has not yet had all its phases
-    next : (n : ℕ) → Walked (min n (4 * passes) * 4096) (at n .now) → Walked (min (suc n) (4 * passes) * 4096) (at (suc n) .now)
+    next : (n : ℕ) → Walked (min n (4 * passes) * phaseTiles) (at n .now) → Walked (min (suc n) (4 * passes) * phaseTiles) (at (suc n) .now)
     next n w = ⊎-elim going over (walk-stage S passes cpe indices error n)
       where
-        going : Going passes n (at n) → Walked (min (suc n) (4 * passes) * 4096) (at (suc n) .now)
+        going : Going passes n (at n) → Walked (min (suc n) (4 * passes) * phaseTiles) (at (suc n) .now)
         going o =
             let h : n < 4 * passes = omega (arith, o .here, o .left, o .phase) in
-            let a : min n (4 * passes) * 4096 + 4096 ≤ tileLimit = omega (arith, h, few-passes) in
-            let b : min n (4 * passes) * 4096 + 4096 ≤ min (suc n) (4 * passes) * 4096 = omega (arith, h) in
-            rw (at-more n) (more-tiles (min n (4 * passes) * 4096 + 4096) (min (suc n) (4 * passes) * 4096) (walkPhase S passes (at n) .now) b (phase-walked passes (min n (4 * passes) * 4096) a (at n) w))
+            let a : min n (4 * passes) * phaseTiles + phaseTiles ≤ midTileLimit = omega (arith, h, few-passes) in
+            let b : min n (4 * passes) * phaseTiles + phaseTiles ≤ min (suc n) (4 * passes) * phaseTiles = omega (arith, h) in
+            rw (at-more n) (more-tiles (min n (4 * passes) * phaseTiles + phaseTiles) (min (suc n) (4 * passes) * phaseTiles) (walkPhase S passes (at n) .now) b (phase-walked passes (min n (4 * passes) * phaseTiles) a (at n) w))
 
-        over : Over passes (at n) → Walked (min (suc n) (4 * passes) * 4096) (at (suc n) .now)
-        over o = rw (at-more n, phase-ended S passes (at n) (o .ended)) (more-tiles (min n (4 * passes) * 4096) (min (suc n) (4 * passes) * 4096) (at n .now) (omega arith) w)
+        over : Over passes (at n) → Walked (min (suc n) (4 * passes) * phaseTiles) (at (suc n) .now)
+        over o = rw (at-more n, phase-ended S passes (at n) (o .ended)) (more-tiles (min n (4 * passes) * phaseTiles) (min (suc n) (4 * passes) * phaseTiles) (at n .now) (omega arith) w)
 
-    counted : Walked 0 (at 0 .now) → (n : ℕ) → Walked (min n (4 * passes) * 4096) (at n .now)
-    counted w zero = more-tiles 0 (min 0 (4 * passes) * 4096) (at 0 .now) (omega arith) w
+    counted : Walked 0 (at 0 .now) → (n : ℕ) → Walked (min n (4 * passes) * phaseTiles) (at n .now)
+    counted w zero = more-tiles 0 (min 0 (4 * passes) * phaseTiles) (at 0 .now) (omega arith) w
     counted w (suc n) = next n (counted w n)
 
     pub phases-walked : Walked 0 (refined cpe indices (record { error = error; accepted = 0 })) → (n : ℕ) → Walked walkTileLimit (at n .now)
-    phases-walked w n = more-tiles (min n (4 * passes) * 4096) walkTileLimit (at n .now) (omega (arith, few-passes)) (counted (start-walked w) n)
+    phases-walked w n = more-tiles (min n (4 * passes) * phaseTiles) walkTileLimit (at n .now) (omega (arith, few-passes)) (counted (start-walked w) n)

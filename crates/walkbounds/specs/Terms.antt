@@ -1,5 +1,4 @@
--- How many terms a value of `cpe` and the error have gathered after m tiles of a walk. A visit adds at most 2 · 2 · 65 · 65 · 2 terms to a value
--- of `cpe` (crudely: every turn of a sweep adds two), and one cost to the delta; a tile has at most 67 · 67 visits.
+-- How many terms a value of `cpe` and the error have gathered after m tiles of a walk, counted crudely: it is enough that they stay below 2⁵³.
 use Prim.Native.Nat.{ℕ, _+_, _*_, _≤_}
 use mathlib.Core.Path.{_≡_}
 use lib.ListN.{length}
@@ -9,28 +8,40 @@ use Rattle.bounds.specs.Bound.{AllWithin}
 use Rattle.inkbounds.specs.Inks.{inkExponent}
 use Rattle.errorbounds.specs.Errors.{StoreWithin, fieldTerms}
 
+-- a turn of a sweep adds at most two terms to a value, a sweep has at most 65 · 65 turns, and a move makes at most four
+abbrev pub sweepTerms : ℕ
+sweepTerms = 65 * (65 * 2)
+
 abbrev pub visitTerms : ℕ
-visitTerms = 33800
+visitTerms = 4 * sweepTerms
 
+-- a tile is at most 67 pixels wide and high; one row more leaves room to speak of each of its visits
 abbrev pub tileVisits : ℕ
-tileVisits = 4489
+tileVisits = 67 * (67 * 1)
 
--- 4,489 · 33,800
-abbrev pub tileTerms : ℕ
-tileTerms = 151728200
+abbrev pub visitLimit : ℕ
+visitLimit = tileVisits + 67 * 1 + 1
 
 abbrev pub cellTerms : ℕ → ℕ
-cellTerms m = fieldTerms + m * tileTerms
+cellTerms m = fieldTerms + m * (tileVisits * visitTerms)
 
+-- each visit adds one cost to the delta; the initial error counts as one
 abbrev pub errorTerms : ℕ → ℕ
 errorTerms m = 1 + m * tileVisits
 
--- the tiles of 1,000 passes of four phases, each looking at 4,096 tiles at most, and of a phase more and less than another, as a job may have made in the midst of one
+-- a phase looks at no more tiles than this, and a walk has at most four phases in each of 1,000 passes
+abbrev pub phaseTiles : ℕ
+phaseTiles = 4096
+
 abbrev pub walkTileLimit : ℕ
-walkTileLimit = 16384000
+walkTileLimit = 4000 * phaseTiles
+
+-- in the midst of a phase, and one tile more
+abbrev pub midTileLimit : ℕ
+midTileLimit = walkTileLimit + phaseTiles
 
 abbrev pub tileLimit : ℕ
-tileLimit = 16392192
+tileLimit = midTileLimit + 1
 
 -- what tiles read is within its bounds
 pub record Steady (S : Shared) : Type 0 where
