@@ -37,6 +37,23 @@ use Rattle.errorbounds.proofs.Errors.{values-within, less-within}
 use Rattle.walkbounds.specs.Costs.{toggleCostTo, swapCostWith, costOf}
 use Rattle.walkbounds.specs.Terms.{Steady}
 
+-- ---- `costOf` has what the search weighs: each try compares the best so far with the cost of its move, and with nothing else
+
+module _ (S : Shared) (W : Rect) (cpe : List Float) (indices : List ℕ) (x y : ℕ) (b : Best) where
+  pub toggle-weighs : (j : ℕ) → tryToggle (S .inks) (centres (S .cpp) (S .tiling)) (siteAt W cpe indices x y) j b ≡
+      cond (eqb j (indexAt W indices x y)) b (betterOf b (costOf S W cpe indices x y (Toggle j)) (Toggle j))
+  unfolding tryToggle costOf
+  toggle-weighs j = refl
+
+  pub swap-weighs : (code nx ny : ℕ) → partnerOf S W indices x y (indexAt W indices x y) code ≡ Pixel nx ny →
+      trySwap S W cpe indices x y (siteAt W cpe indices x y) code b ≡ betterOf b (costOf S W cpe indices x y (Swap code)) (Swap code)
+  unfolding trySwap costOf
+  swap-weighs code nx ny e = rw e
+
+  pub none-weighed : (code : ℕ) → partnerOf S W indices x y (indexAt W indices x y) code ≡ Outside → trySwap S W cpe indices x y (siteAt W cpe indices x y) code b ≡ b
+  unfolding trySwap
+  none-weighed code e = rw e
+
 -- ---- the formulas, for `cpe` values of at most 2^78
 
 two : Within 1 1 f2

@@ -1,4 +1,5 @@
--- The costs that a visit of pixel (x, y) weighs, one for each move that the pixel may make.
+-- The costs that a visit of pixel (x, y) weighs, one for each move that the pixel may make. `toggle-weighs` and `swap-weighs` of
+-- proofs/Costs.antt: these are what the tries of the search compare with the best so far.
 use mathlib.Core.List.{List}
 use Prim.Native.Nat.{ℕ}
 use lib.Ieee.{Float}
