@@ -52,9 +52,7 @@ module _ (I : Input) (passes : ℕ) (cpe cpp : List Float) (counts : List ℕ) (
   accepted-numbers =
       let w = refine-run .phases (4 * passes) in
       record {
-        cpe = w .cpe;
-        kernels = refine-run .prepared .kernels;
-        inks = refine-run .prepared .inks;
+        buffers = record { field = w .cpe; kernels = refine-run .prepared .kernels; values = refine-run .prepared .inks };
         initial = refine-run .prepared .initial;
         final = w .error;
       }

@@ -215,10 +215,8 @@ module _ (O : Opening) (ok : openOf O .status ≡ accepted) where
   unfolding firstRecord
   left =
       rw (leaves O ok) (record {
-        cpe = run .prepared .field;
-        kernels = run .prepared .kernels;
+        buffers = record { field = run .prepared .field; kernels = run .prepared .kernels; values = run .prepared .inks };
         deltas = numbers (replicate (tiles (tilingOf I)) f0) (zeros-within 0 1 (tiles (tilingOf I)));
-        inks = run .prepared .inks;
         initial = run .prepared .initial;
         error = run .prepared .initial;
       })

@@ -8,14 +8,14 @@ use Rattle.walk.specs.Walk.{Walk}
 use Rattle.bounds.specs.Number.{Number, Numbers}
 use Rattle.bounds.proofs.Bits.{no-nan, one-bits, same-bits, same-bits-all}
 use Rattle.input.specs.Input.{Input}
-use Rattle.refine.specs.Refine.{refineOf}
+use Rattle.refine.specs.Refine.{Refinement, refineOf}
 use Rattle.job.specs.Words.{encode, wordOver, rewritten}
-use Rattle.job.specs.Open.{Opening}
+use Rattle.job.specs.Open.{Opening, openOf}
 use Rattle.job.specs.Runs.{Call, Job, start, after, closesAfter}
 use Rattle.job.specs.Claim.{Same, Along, phases}
 use Rattle.job.proofs.Demand3.{demand3}
-use Rattle.finite.specs.Finite.{workAt, JobNumbers, AlongNumbers, Finiteness}
-use Rattle.finite.specs.InBits.{AllOneBits, RefinedBits, SameInBits, JobBits, AlongBits, InBits}
+use Rattle.finite.specs.Finite.{workAt, BufferNumbers, RefinedNumbers, JobNumbers, AlongNumbers, Finiteness}
+use Rattle.finite.specs.InBits.{AllOneBits, BufferBits, RefinedBits, SameInBits, JobBits, AlongBits, InBits}
 use Rattle.finite.proofs.Answers.{refine-run, refine-numbers, measure-numbers}
 use Rattle.finite.proofs.Jobs.{job-run}
 
@@ -31,11 +31,16 @@ finiteness = record {
 all-one : (l : List Float) → Numbers l → AllOneBits l
 all-one l n i h = one-bits (getD l i nan) (n i h)
 
-refined-bits : (I : Input) (passes : ℕ) (cpe cpp : List Float) (counts : List ℕ) (inks : List Float) → refineOf I passes cpe cpp counts inks .stats .number ≡ 0 → RefinedBits I (refineOf I passes cpe cpp counts inks)
-refined-bits I passes cpe cpp counts inks e =
-    let R = refineOf I passes cpe cpp counts inks in
-    let n = refine-numbers I passes cpe cpp counts inks e in
-    record { cpe = all-one (R .cpe) (n .cpe); lum = λ i j a b. one-bits _ (n .kernels .lum i j a b); chroma = λ i j a b. one-bits _ (n .kernels .chroma i j a b); inks = all-one (R .inks) (n .inks); initial = one-bits _ (n .initial); final = one-bits _ (n .final) }
+buffer-bits : (I : Input) (cpe cpp inks : List Float) → BufferNumbers I cpe cpp inks → BufferBits I cpe cpp inks
+buffer-bits I cpe cpp inks n = record {
+  field = all-one cpe (n .field);
+  lum = λ i j a b. one-bits _ (n .kernels .lum i j a b);
+  chroma = λ i j a b. one-bits _ (n .kernels .chroma i j a b);
+  values = all-one inks (n .values);
+}
+
+refined-bits : (I : Input) (R : Refinement) → RefinedNumbers I R → RefinedBits I R
+refined-bits I R n = record { buffers = buffer-bits I (R .cpe) (R .cpp) (R .inks) (n .buffers); initial = one-bits _ (n .initial); final = one-bits _ (n .final) }
 
 same-in-bits : (O : Opening) (J : Job) (w : Walk) → JobNumbers O J → Same J w → SameInBits J w
 same-in-bits O J w n s = record { cpe = same-bits-all (J .image .cpe) (w .now .cpe) (n .cpe) (s .cpe); error = same-bits (J .rec .error) (w .now .run .error) (n .error) (s .error) }
@@ -70,8 +75,10 @@ along-bits O (c ∷ cs) m J n a = (
 
 pub in-bits : InBits
 in-bits = record {
-  refines = refined-bits;
+  refines = λ I passes cpe cpp counts inks e. refined-bits I (refineOf I passes cpe cpp counts inks) (refine-numbers I passes cpe cpp counts inks e);
   measures = λ I e. one-bits _ (measure-numbers I e .error);
-  opening = λ O ok. (job-bits O (start O) (job-run O ok .opened), same-in-bits O (start O) (phases O 0) (job-run O ok .opened) (demand3 O ok .opening));
+  opening = λ O ok.
+      let n = job-run O ok in
+      (buffer-bits (O .input) (openOf O .cpe) (openOf O .cpp) (openOf O .inks) (n .left .buffers), job-bits O (start O) (n .opened), same-in-bits O (start O) (phases O 0) (n .opened) (demand3 O ok .opening));
   calls = λ O ok cs f. along-bits O cs 0 (start O) (job-run O ok .calls cs f) (demand3 O ok .two cs f);
 }

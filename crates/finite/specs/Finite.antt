@@ -81,10 +81,14 @@ pub record RunNumbers (I : Input) (passes : ℕ) (cpp : List Float) : Type 0 whe
 
 -- ---- what refine leaves
 
+-- the lent buffers of floats that refine and open write: field, kernel store and ink values
+pub record BufferNumbers (I : Input) (cpe cpp inks : List Float) : Type 0 where
+  pub field : Numbers cpe
+  pub kernels : StoreNumbers (tilingOf I) cpp
+  pub values : Numbers inks
+
 pub record RefinedNumbers (I : Input) (R : Refinement) : Type 0 where
-  pub cpe : Numbers (R .cpe)
-  pub kernels : StoreNumbers (tilingOf I) (R .cpp)
-  pub inks : Numbers (R .inks)
+  pub buffers : BufferNumbers I (R .cpe) (R .cpp) (R .inks)
   pub initial : Number (R .stats .«initial_error»)
   pub final : Number (R .stats .«final_error»)
 
@@ -101,10 +105,8 @@ pub record MeasuredNumbers (I : Input) : Type 0 where
 
 -- what an open leaves
 pub record OpenedNumbers (I : Input) (a : Opened) : Type 0 where
-  pub cpe : Numbers (a .cpe)
-  pub kernels : StoreNumbers (tilingOf I) (a .cpp)
+  pub buffers : BufferNumbers I (a .cpe) (a .cpp) (a .inks)
   pub deltas : Numbers (a .deltas)
-  pub inks : Numbers (a .inks)
   pub initial : Number (a .rec .plan .initial)
   pub error : Number (a .rec .error)
 

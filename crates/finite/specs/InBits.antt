@@ -28,12 +28,16 @@ AllOneBits l = (i : ℕ) → i < length l → OneBits (getD l i nan)
 abbrev pub KernelBits : List Float → Kernel2D → Type 0
 KernelBits cpp k = (i j : ℕ) → i < size k → j < size k → OneBits (kernelAt cpp k i j)
 
+-- the lent buffers of floats that refine and open write
+pub record BufferBits (I : Input) (cpe cpp inks : List Float) : Type 0 where
+  pub field : AllOneBits cpe
+  pub lum : KernelBits cpp (lumKernel (tilingOf I))
+  pub chroma : KernelBits cpp (chromaKernel (tilingOf I))
+  pub values : AllOneBits inks
+
 -- what refine leaves
 pub record RefinedBits (I : Input) (R : Refinement) : Type 0 where
-  pub cpe : AllOneBits (R .cpe)
-  pub lum : KernelBits (R .cpp) (lumKernel (tilingOf I))
-  pub chroma : KernelBits (R .cpp) (chromaKernel (tilingOf I))
-  pub inks : AllOneBits (R .inks)
+  pub buffers : BufferBits I (R .cpe) (R .cpp) (R .inks)
   pub initial : OneBits (R .stats .«initial_error»)
   pub final : OneBits (R .stats .«final_error»)
 
@@ -65,5 +69,6 @@ pub record InBits : Type 0 where
   pub refines : (I : Input) (passes : ℕ) (cpe cpp : List Float) (counts : List ℕ) (inks : List Float) → refineOf I passes cpe cpp counts inks .stats .number ≡ 0 →
       RefinedBits I (refineOf I passes cpe cpp counts inks)
   pub measures : (I : Input) → measureOf I .number ≡ 0 → OneBits (measureOf I .error)
-  pub opening : (O : Opening) → openOf O .status ≡ accepted → JobBits O (start O) × SameInBits (start O) (phases O 0)
+  pub opening : (O : Opening) → openOf O .status ≡ accepted →
+      BufferBits (O .input) (openOf O .cpe) (openOf O .cpp) (openOf O .inks) × JobBits O (start O) × SameInBits (start O) (phases O 0)
   pub calls : (O : Opening) → openOf O .status ≡ accepted → (cs : List Call) → Fair O (start O) cs → AlongBits O 0 (start O) cs
