@@ -1,5 +1,5 @@
 -- What an accepted eye gives: the luminance blur is the narrower one, because its constant is the smaller and no NaN arises, so the
--- one test of the chrominance bounds both radii. Assumes nothing.
+-- one test of the chrominance bounds both radii, and the one of the luminance both widths from below. Assumes nothing.
 use Prim.Native.Nat.{ℕ, _+_, _*_, _≤_}
 use mathlib.Core.Path.{_≡_, refl, sym, ap, _∙_}
 use mathlib.Core.Bool.{Bool, true, false, cond, true≢false}
@@ -16,9 +16,9 @@ use Rattle.base.proofs.Bounds.{product-le}
 use Rattle.base.proofs.RefusalLaws.{Numbered, passes-of}
 use Rattle.base.proofs.JudgeLaws.{judge-zero}
 use Rattle.eye.specs.declared.DbsParams.{DbsParams}
-use Rattle.eye.specs.Constants.{alphaLum, alphaChroma, cmPerInch, pi, f180}
+use Rattle.eye.specs.Constants.{alphaLum, alphaChroma, sigmaMin, cmPerInch, pi, f180}
 use Rattle.eye.specs.Eye.{toDegrees, sigmaPx, truncation, blurRadius, kernelRadius, KernelRadius, Narrow, isFinitePositive, eyeTests, eye, eyeOf}
-use Rattle.eye.proofs.NonNegative.{nonneg, div-nonneg, mul-nonneg, div-mono, both-narrow}
+use Rattle.eye.proofs.NonNegative.{nonneg, Ordered, div-nonneg, mul-nonneg, div-mono, both-narrow, both-wide}
 use Rattle.eye.proofs.CeilLaws.{ceil-bound}
 
 finite-positive : (x : Float) → isFinitePositive x ≡ true → T (positive x)
@@ -39,14 +39,24 @@ widths : T (positive widthLum) × T (positive widthChroma) × T (le widthLum wid
 unfolding div mul ofBits le
 widths = (tt, tt, tt, tt, tt)
 
-pub narrow-both : (p : DbsParams) → Passes (eyeTests p) → Narrow (sigmaPx alphaLum p) × Narrow (sigmaPx alphaChroma p)
-unfolding eyeTests Passes sigmaPx toDegrees Narrow
-narrow-both p t =
+-- the luminance width is the smaller one
+ordered-widths : (p : DbsParams) → Passes (eyeTests p) → Ordered (sigmaPx alphaLum p) (sigmaPx alphaChroma p)
+unfolding eyeTests Passes sigmaPx toDegrees
+ordered-widths p t =
     let inch = finite-positive (p .ppi) (not-false _ (t .0)) in
     let far = finite-positive (p .«viewing_distance_cm») (not-false _ (t .1 .0)) in
     let radians = div-nonneg (cmPerInch /f p .ppi) (p .«viewing_distance_cm») (div-nonneg cmPerInch (p .ppi) (widths .4) inch) far in
     let degrees = mul-nonneg (cmPerInch /f p .ppi /f p .«viewing_distance_cm») (f180 /f pi) radians (widths .3) in
-    both-narrow _ _ (div-mono widthLum widthChroma (toDegrees (cmPerInch /f p .ppi /f p .«viewing_distance_cm»)) (widths .0) (widths .1) (widths .2) degrees) (t .1 .1 .1 .0)
+    div-mono widthLum widthChroma (toDegrees (cmPerInch /f p .ppi /f p .«viewing_distance_cm»)) (widths .0) (widths .1) (widths .2) degrees
+
+pub narrow-both : (p : DbsParams) → Passes (eyeTests p) → Narrow (sigmaPx alphaLum p) × Narrow (sigmaPx alphaChroma p)
+unfolding eyeTests Passes Narrow
+narrow-both p t = both-narrow (sigmaPx alphaLum p) (sigmaPx alphaChroma p) (ordered-widths p t) (t .1 .1 .1 .0)
+
+-- so the one test of the luminance bounds both widths from below
+pub wide-both : (p : DbsParams) → Passes (eyeTests p) → T (le sigmaMin (sigmaPx alphaLum p)) × T (le sigmaMin (sigmaPx alphaChroma p))
+unfolding eyeTests Passes
+wide-both p t = both-wide (sigmaPx alphaLum p) (sigmaPx alphaChroma p) (ordered-widths p t) (t .1 .1 .0)
 
 narrow-radius : (alpha : Float) (p : DbsParams) → Narrow (sigmaPx alpha p) → KernelRadius (kernelRadius alpha p)
 unfolding kernelRadius blurRadius Narrow

@@ -14,7 +14,7 @@ use lib.Ieee.Order.{round-mono, le-of-values}
 use lib.Ieee.Positive.{positive}
 use borrow.Author.Tests.{ltb-false, ne-eqb}
 use Rattle.base.specs.F64.{_*f_, _/f_}
-use Rattle.eye.specs.Constants.{truncationMax, truncationSigmas}
+use Rattle.eye.specs.Constants.{truncationMax, truncationSigmas, sigmaMin}
 
 -- no NaN, and not negative
 abbrev pub nonneg : Float → Bool
@@ -169,3 +169,32 @@ both-narrow = ordered-cases (λ x y. lt truncationMax (truncationSigmas *f y) �
       second = round-nonneg binary64 (5 * (n * up d)) (2 * down d);
       ordered = round-mono binary64 (5 * (m * up e)) (2 * down e) (5 * (n * up d)) (2 * down d) (omega (arith, down-pos e)) (omega (arith, down-pos d)) (omega (arith, h));
     }))
+
+-- ---- where the smaller is not below 0.05, which is this fraction, neither is
+
+abbrev leastTop : ℕ
+leastTop = 3602879701896397
+
+abbrev leastBottom : ℕ
+leastBottom = 2 ^ 56
+
+not-below : (m : ℕ) (e : ℤ) → leastTop * down e ≤ m * up e * leastBottom → T (le sigmaMin (fin false m e))
+unfolding ofBits
+not-below m e h = le-of-values sigmaMin (fin false m e) leastTop leastBottom (m * up e) (down e) (ltb→lt 0 leastBottom tt) (down-pos e) (refl, refl) (refl, refl) h
+
+wide-first : (x : Float) → T (nonneg x) → lt x sigmaMin ≡ false → T (le sigmaMin x)
+unfolding lt ofBits
+wide-first nan p h = absurd p
+wide-first (inf true) p h = absurd p
+wide-first (inf false) p h = unfold le in tt
+wide-first (fin true m e) p h = absurd p
+wide-first (fin false m e) p h = not-below m e (omega (arith, ltb-false (m * up e * leastBottom) (leastTop * down e) h))
+
+wide-second : (x y : Float) → Ordered x y → T (le sigmaMin x) → T (le sigmaMin y)
+unfolding ofBits
+wide-second = ordered-cases (λ x y. T (le sigmaMin x) → T (le sigmaMin y)) (λ x k. unfold le in tt) (λ m e n d h k.
+    let b : leastTop * down e ≤ m * up e * leastBottom = cross leastTop (lib.IntN.negsuc 55) m e k in
+    not-below n d (le-of-mul-le-mul-right (omega (arith, mul-le-mul-right leastBottom h, mul-le-mul-right (down d) b)) (down-pos e)))
+
+pub both-wide : (x y : Float) → Ordered x y → lt x sigmaMin ≡ false → T (le sigmaMin x) × T (le sigmaMin y)
+both-wide x y q h = let w = wide-first x (q .first) h in (w, wide-second x y q w)

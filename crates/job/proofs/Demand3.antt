@@ -91,7 +91,7 @@ module _ (O : Opening) where
           (take-keeps (planOf O) (I .pinned) (inksOf I) (cppOf I (O .cpp)) J w H t copy (take-passes (J .rec) t (J .image) (J .states) copy .0 (take-answers (J .rec) t (J .image) (J .states) copy .accepts .0 e)))
 
       -- what the work call made is what the tile brings
-      made-is : (t : ℕ) (made : State) → WorkMade O J t made → refinedCopy sharedHere t (J .last t) ≡ made
+      pub made-is : (t : ℕ) (made : State) → WorkMade O J t made → refinedCopy sharedHere t (J .last t) ≡ made
       made-is t made b =
           let o = leaves O ok in
           let ok′ = rw o at (b .ok) in
@@ -214,7 +214,7 @@ module _ (O : Opening) where
       abbrev back : ℕ → Bool
       back = isHome (tilingOf I) (phases O m .phase) (J .states)
 
-      image-is : J .image ≡ pixelsNow (walkSome sharedHere back (tiles (tilingOf I)) (phases O m .now))
+      pub image-is : J .image ≡ pixelsNow (walkSome sharedHere back (tiles (tilingOf I)) (phases O m .now))
       image-is =
           ap (λ (x : Half). x .image) (H .half ∙ sym (
           walk-reached sharedHere (phases O m .phase) back (home-due (tilingOf I) (phases O m .phase) (J .states)) (phases O m .now) (H .whole) (tiles (tilingOf I)) .half))

@@ -2,8 +2,7 @@
 --
 -- Run one is the plain walk of what the open was given, on one image without copies: `runOne` of the crate `prepare`. Run two is any list of calls on
 -- the job that the open left (Runs.antt). Both are made of the very definitions that the functions' contracts cite.
--- Floats are equal here where their bits are, but for a NaN: it is one float and has many bit patterns. Which of them a NaN is, no definition decides;
--- status, indices, counts and unwritten cells do not depend on it.
+-- Floats that are equal here have equal bits: a NaN, which is one float and has many bit patterns, arises in neither run (the crate `finite`).
 use Prim.Native.Nat.{ℕ, suc, _<_}
 use mathlib.Core.Path.{_≡_}
 use mathlib.Core.Logic.{_≢_}

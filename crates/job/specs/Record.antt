@@ -1,5 +1,6 @@
 -- The job record (document 01, 'Records'), and what row 12 of the table of refusals asks of it. `Plan` is its part that an open fixes.
--- Errors, deltas and field values may be any floats. A NaN is one float here, and which bits it has no definition decides.
+-- Errors, deltas and field values may be any floats. Where they stem from no open there may be a NaN among them or made of them: it is one float here, and
+-- which bits it has no definition decides. Status, indices, counts and unwritten cells do not depend on it.
 use Prim.Native.Nat.{ℕ, _*_, _%_}
 use mathlib.Core.Bool.{Bool, not, _&&_}
 use mathlib.Core.List.{List, [], _∷_}

@@ -1,4 +1,4 @@
 mod SquareLaws
-mod OverlapLaws
+pub mod OverlapLaws
 mod OverwriteLaws
 pub mod KernelLaws

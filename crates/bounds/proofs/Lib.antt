@@ -1,0 +1,5 @@
+pub mod Rounding
+pub mod Within
+pub mod Ranges
+pub mod Sums
+pub mod Bits

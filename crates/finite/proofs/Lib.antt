@@ -1,0 +1,5 @@
+pub mod Prepared
+pub mod Runs
+pub mod Answers
+pub mod Jobs
+pub mod Theorem

@@ -1,0 +1,74 @@
+-- What finiteness says of bits. A number has one bit pattern, so what a contract equates with a definition it equates bit for bit (demand 2: 'every bit'),
+-- and demand 3's two runs are equal bit for bit: no pattern is left open by the proofs' single NaN.
+use Prim.Native.Nat.{ℕ, suc, _<_}
+use mathlib.Core.Path.{_≡_}
+use mathlib.Core.Bool.{true}
+use mathlib.Core.List.{List, [], _∷_, List·Memᴰ}
+use lib.ListN.{length, getD}
+use lib.Ieee.{Float, nan}
+use Rattle.base.specs.Refusal.{accepted}
+use Rattle.cpp.specs.declared.Kernel2D.{Kernel2D}
+use Rattle.cpp.specs.Kernel.{size, kernelAt, lumKernel, chromaKernel}
+use Rattle.walk.specs.Walk.{Walk}
+use Rattle.bounds.specs.Number.{OneBits, SameBits, SameBitsAll}
+use Rattle.input.specs.Input.{Input}
+use Rattle.prepare.specs.Prepare.{tilingOf}
+use Rattle.refine.specs.Refine.{Refinement, refineOf}
+use Rattle.perceived.specs.Perceived.{measureOf}
+use Rattle.job.specs.declared.JobRecord.{JobRecord}
+use Rattle.job.specs.Words.{encode, rewritten}
+use Rattle.job.specs.Open.{Opening, openOf}
+use Rattle.job.specs.Runs.{Call, Job, start, answer, after, isClose, closesAfter}
+use Rattle.job.specs.Claim.{Fair, phases}
+use Rattle.finite.specs.Finite.{workAt}
+
+abbrev pub AllOneBits : List Float → Type 0
+AllOneBits l = (i : ℕ) → i < length l → OneBits (getD l i nan)
+
+abbrev pub KernelBits : List Float → Kernel2D → Type 0
+KernelBits cpp k = (i j : ℕ) → i < size k → j < size k → OneBits (kernelAt cpp k i j)
+
+-- the lent buffers of floats that refine and open write
+pub record BufferBits (I : Input) (cpe cpp inks : List Float) : Type 0 where
+  pub field : AllOneBits cpe
+  pub lum : KernelBits cpp (lumKernel (tilingOf I))
+  pub chroma : KernelBits cpp (chromaKernel (tilingOf I))
+  pub values : AllOneBits inks
+
+-- what refine leaves
+pub record RefinedBits (I : Input) (R : Refinement) : Type 0 where
+  pub buffers : BufferBits I (R .cpe) (R .cpp) (R .inks)
+  pub initial : OneBits (R .stats .«initial_error»)
+  pub final : OneBits (R .stats .«final_error»)
+
+-- both runs: 'every bit of the field', 'every bit of the error'
+pub record SameInBits (J : Job) (w : Walk) : Type 0 where
+  pub cpe : SameBitsAll (J .image .cpe) (w .now .cpe)
+  pub error : SameBits (J .rec .error) (w .now .run .error)
+
+-- a job's own floats have one pattern each, and the run of 12 numbers that a call writes does not depend on what stood there
+pub record JobBits (O : Opening) (J : Job) : Type 0 where
+  pub cpe : AllOneBits (J .image .cpe)
+  pub deltas : AllOneBits (J .deltas)
+  pub initial : OneBits (J .rec .plan .initial)
+  pub error : OneBits (J .rec .error)
+  pub copies : (t : ℕ) → AllOneBits (J .last t .cpe)
+  -- 'Copies are compared by their values, their floats and the delta by bits': what work makes
+  pub works : (t : ℕ) (r : JobRecord) → List·Memᴰ r (J .seen) → workAt O J t r .status ≡ accepted →
+      AllOneBits (workAt O J t r .made .cpe) × OneBits (workAt O J t r .made .progress .delta)
+  pub words : (old : List ℕ) → rewritten old (J .rec) ≡ encode (J .rec)
+
+unfoldable pub AlongBits : Opening → ℕ → Job → List Call → Type 0
+AlongBits O m J [] = Unit
+AlongBits O m J (c ∷ cs) =
+    JobBits O (after J c)
+    × (answer (J .rec) c ≡ accepted → isClose c ≡ true → SameInBits (after J c) (phases O (suc m)))
+    × AlongBits O (closesAfter m J c) (after J c) cs
+
+pub record InBits : Type 0 where
+  pub refines : (I : Input) (passes : ℕ) (cpe cpp : List Float) (counts : List ℕ) (inks : List Float) → refineOf I passes cpe cpp counts inks .stats .number ≡ 0 →
+      RefinedBits I (refineOf I passes cpe cpp counts inks)
+  pub measures : (I : Input) → measureOf I .number ≡ 0 → OneBits (measureOf I .error)
+  pub opening : (O : Opening) → openOf O .status ≡ accepted →
+      BufferBits (O .input) (openOf O .cpe) (openOf O .cpp) (openOf O .inks) × JobBits O (start O) × SameInBits (start O) (phases O 0)
+  pub calls : (O : Opening) → openOf O .status ≡ accepted → (cs : List Call) → Fair O (start O) cs → AlongBits O 0 (start O) cs

@@ -1,0 +1,1 @@
+// Ink values and errors are numbers: proofs/Inks.antt.

@@ -1,0 +1,4 @@
+pub mod Exp
+pub mod Width
+pub mod Gauss
+pub mod Kernels

@@ -1,0 +1,1 @@
+// Gaussian values, blurs and kernels of an accepted eye are numbers: proofs/Kernels.antt.

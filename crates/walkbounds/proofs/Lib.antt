@@ -1,0 +1,4 @@
+pub mod Costs
+pub mod Sweeps
+pub mod Tiles
+pub mod Walks

@@ -1,0 +1,1 @@
+// Costs, the field and the error stay numbers all through a walk: proofs/Tiles.antt and proofs/Walks.antt.
