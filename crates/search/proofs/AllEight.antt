@@ -55,7 +55,7 @@ places : (x y w h : ℕ) (o : Offset) → Given o → Smalls o → 1 ≤ x → x
 places x y w h (By dx dy) g s a b c d = joins (shiftedOf x dx w) (shiftedOf y dy h) (moved x w dx (s .0) a b) (moved y h dy (s .1) c d)
 places x y w h Nothing g s a b c d = absurd g
 
-all-eight : (code x y w h : ℕ) → code < 8 → 1 ≤ x → x + 1 < w → 1 ≤ y → y + 1 < h → Found (neighbourOf code x y w h)
+pub all-eight : (code x y w h : ℕ) → code < 8 → 1 ≤ x → x + 1 < w → 1 ≤ y → y + 1 < h → Found (neighbourOf code x y w h)
 all-eight code x y w h l a b c d = places x y w h (offsetOf code) (given code l) (all-small code) a b c d
 
 -- the centre of a kernel of radius r

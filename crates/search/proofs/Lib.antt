@@ -1,4 +1,5 @@
 pub mod Window
 pub mod AllEight
+pub mod FastLaws
 pub mod Order
 pub mod Laws

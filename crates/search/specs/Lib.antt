@@ -1,2 +1,3 @@
 pub mod Shared
 pub mod Search
+pub mod Fast

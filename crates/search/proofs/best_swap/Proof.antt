@@ -7,12 +7,13 @@ use Rattle.base.specs.Loop.{upTo}
 use Rattle.base.proofs.LoopLaws.{upTo-none, upTo-more}
 use Rattle.search.specs.Shared.{shared}
 use Rattle.search.specs.Search.{trySwap, swaps}
+use Rattle.search.specs.Fast.{bestOf}
 use Rattle.search.proofs.best_swap.Statement.{statement}
 use Rattle.search.proofs.best_swap.Tie as tie
 
 abbrev Inv-loop : tie.InvT-loop
 Inv-loop cpe indices pinned inks cpp count t w x y s best₀ code₀ best code =
-    (code ≤ 8) × (best ≡ upTo (trySwap (shared t count pinned inks cpp) w cpe indices x y s) code best₀)
+    (code ≤ 8) × (bestOf best ≡ upTo (trySwap (shared t count pinned inks cpp) w cpe indices x y s) code (bestOf best₀))
 
 abbrev μ-loop : tie.MeasureT-loop
 μ-loop cpe indices pinned inks cpp count t w x y s best₀ code₀ best code = 8 - code

@@ -6,20 +6,21 @@ use borrow.Author.Needs.{needs}
 use Rattle.base.specs.Loop.{upTo}
 use Rattle.base.proofs.LoopLaws.{upTo-none, upTo-more}
 use Rattle.search.specs.Search.{tryToggle}
+use Rattle.search.specs.Fast.{bestOf}
 use Rattle.search.proofs.best_toggle.Statement.{statement}
 use Rattle.search.proofs.best_toggle.Tie as tie
 
 abbrev Inv-loop : tie.InvT-loop
-Inv-loop inks p count s best₀ j₀ best j = (j ≤ count) × (best ≡ upTo (tryToggle inks p s) j best₀)
+Inv-loop inks p count s v best₀ j₀ best j = (j ≤ count) × (bestOf best ≡ upTo (tryToggle inks p s) j (bestOf best₀))
 
 abbrev μ-loop : tie.MeasureT-loop
-μ-loop inks p count s best₀ j₀ best j = count - j
+μ-loop inks p count s v best₀ j₀ best j = count - j
 
 loop-holds : tie.Need-loop-holds Inv-loop μ-loop
 loop-holds c = (search needs, sym (upTo-none _ _))
 
 try-toggle-requires : tie.Need-try-toggle-requires Inv-loop μ-loop
-try-toggle-requires c κs = search needs
+try-toggle-requires c κs = (c .before .before .before .pre .0, (omega (arith, c .loop-test .taken, c .before .before .before .pre .1), omega (arith, c .loop-test .taken, c .before .before .before .pre .1)))
 
 add-j : tie.Need-add-j Inv-loop μ-loop
 add-j c = search needs

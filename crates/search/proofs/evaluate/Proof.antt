@@ -1,52 +1,71 @@
 -- `search::evaluate` meets its contract: the pixel lies in the window, its index names an ink, and the two loops are those of the definition. Assumes nothing.
+use mathlib.Core.Path.{_≡_, refl, _∙_}
 use Prim.Native.Nat.{_<_}
+use native.Mathlib.Omega.{arith}
 use borrow.Author.Needs.{needs}
 use Rattle.base.specs.Grid.{Inside}
-use Rattle.search.specs.Search.{toggles, evaluateOf}
+use Rattle.search.specs.Search.{noMove, toggles, evaluateOf}
+use lib.Ieee.{neg}
+use Rattle.base.specs.F64.{f64}
+use Rattle.search.specs.declared.Best.{Best}
+use Rattle.search.specs.declared.Choice.{Choice}
+use Rattle.search.specs.Fast.{bestOf, moveOf}
 use Rattle.search.proofs.Window.{ready-limits, ready-index, held-inside}
 use Rattle.search.proofs.evaluate.Statement.{statement}
 use Rattle.search.proofs.evaluate.Tie as tie
 
+best-is : (b : Choice) → _≡_ {A = Best} (record { cost = b .cost; mv = moveOf (b .pick) }) (bestOf b)
+unfolding bestOf
+best-is b = refl
+
+start-is : bestOf (record { cost = neg (f64 0x3e112e0be826d695); pick = 264 }) ≡ noMove
+unfolding bestOf moveOf
+start-is = refl
+
 inside : (s : tie.Start) → Inside (s .args .w) (s .args .x) (s .args .y)
-inside s = held-inside (s .args .t) (s .args .w) (s .args .x) (s .args .y) (s .pre .1)
+inside s = held-inside (s .args .t) (s .args .w) (s .args .x) (s .args .y) (s .pre .1 .0)
+
+abbrev start : tie.After-index-at → tie.Start
+start c = c .before .before .before .before .before .before .before .before .before
 
 -- the pixel's ink is one of the inks
-ink : (c : tie.After-index-at) → c .index-at .result < c .before .before .before .before .before .before .args .count
+ink : (c : tie.After-index-at) → c .index-at .result < start c .args .count
 ink c =
-    let s = c .before .before .before .before .before .before in
-    rw (c .index-at .ensures) (ready-index (s .pre .0) (s .args .x) (s .args .y) (inside s))
+    let s = start c in
+    omega (arith, c .index-at .ensures, ready-index (s .pre .0) (s .args .x) (s .args .y) (inside s))
 
 index-at-requires : tie.Need-index-at-requires
 index-at-requires c κs =
-    let s = c .before .before .before .before .before in
+    let s = c .before .before .before .before .before .before .before .before in
     (inside s, (ready-limits (s .pre .0), s .pre .0 .indices-room))
 
 cpe-at-requires : tie.Need-cpe-at-requires
 cpe-at-requires c κs =
-    let s = c .before .before .before .before .before .before in
+    let s = c .before .before .before .before .before .before .before .before .before in
     (inside s, (ready-limits (s .pre .0), s .pre .0 .cpe))
 
-centres-of-requires : tie.Need-centres-of-requires
-centres-of-requires c κs = search needs
+mul-values-at : tie.Need-mul-values-at
+mul-values-at c = omega (arith, ink (c .before), c .before .before .before .before .before .before .before .before .before .before .pre .0 .few-inks)
+
+values-at-requires : tie.Need-values-at-requires
+values-at-requires c κs = omega (arith, ink (c .before), c .before .before .before .before .before .before .before .before .before .before .pre .0 .inks-room)
 
 best-toggle-requires : tie.Need-best-toggle-requires
-best-toggle-requires c κs = (ink (c .before .before), c .before .before .before .before .before .before .before .before .pre .0 .inks-room)
+best-toggle-requires c κs = (c .values-at .ensures, (c .before .before .before .before .before .before .before .before .before .before .before .pre .0 .inks-room, c .before .before .before .before .before .before .before .before .before .before .before .pre .0 .few-inks))
 
-best-swap-requires : tie.Need-best-swap-requires
-best-swap-requires c κs =
-    let s = c .before .before .before .before .before .before .before .before .before in
-    (s .pre .0, (s .pre .1, ink (c .before .before .before)))
+weigh-swaps-requires : tie.Need-weigh-swaps-requires
+weigh-swaps-requires c κs =
+    let s = c .before .before .before .before .before .before .before .before .before .before .before .before in
+    (s .pre .0, (s .pre .1 .0, (s .pre .1 .1 .0, (c .before .values-at .ensures, ink (c .before .before .before)))))
+
+move-of-requires : tie.Need-move-of-requires
+move-of-requires c κs = search needs
 
 returns : tie.Need-returns
 unfolding evaluateOf toggles
 returns c =
-    rw (
-      c .best-swap .ensures,
-      c .before .best-toggle .ensures,
-      c .before .before .centres-of .ensures,
-      c .before .before .before .cpe-at .ensures,
-      c .before .before .before .before .index-at .ensures,
-    )
+    rw (c .move-of .ensures)
+    (best-is (c .before .weigh-swaps .result) ∙ c .before .weigh-swaps .ensures ∙ rw (c .before .before .best-toggle .ensures, start-is, c .before .before .before .before .before .before .before .before .before .before .before .before .before .before .pre .1 .1 .1, c .before .before .before .before .cpe-at .ensures, c .before .before .before .before .before .index-at .ensures))
 
 pub evaluate-spec : {M : Type 1} → statement M
 evaluate-spec =
@@ -54,7 +73,9 @@ evaluate-spec =
     (tie.spec
     index-at-requires
     cpe-at-requires
-    centres-of-requires
+    mul-values-at
+    values-at-requires
     best-toggle-requires
-    best-swap-requires
+    weigh-swaps-requires
+    move-of-requires
     returns)

@@ -8,6 +8,7 @@ use Rattle.neighbour.specs.declared.Adjacent.the-variants.{Pixel}
 use Rattle.search.specs.Shared.{Shared, shared}
 use Rattle.search.specs.Search.{partnerOf, trySwap}
 use Rattle.search.proofs.Window.{ready-limits, ready-index, partner-is, neighbour-inside}
+use Rattle.search.proofs.FastLaws.{move-swap}
 use Rattle.search.proofs.try_swap.Statement.{statement}
 use Rattle.search.proofs.try_swap.Tie as tie
 
@@ -90,6 +91,9 @@ gaps-of-requires c κs =
 swap-cost-requires : tie.Need-swap-cost-requires
 swap-cost-requires c κs = search needs
 
+add-better : tie.Need-add-better
+add-better c = omega (arith, start (c .before .before .before .before .before .before .before .before) .pre .1 .1 .1)
+
 better-requires : tie.Need-better-requires
 better-requires c κs = search needs
 
@@ -106,6 +110,7 @@ returns-2 c =
       c .before .before .before .before .before .values-at2 .ensures,
       c .before .before .before .before .before .before .values-at .ensures,
       c .before .before .before .before .before .before .before .index-at .ensures,
+      move-swap _ (start (c .before .before .before .before .before .before .before .before .before) .pre .1 .1 .1),
     )
 
 pub try-swap-spec : {M : Type 1} → statement M
@@ -125,5 +130,6 @@ try-swap-spec =
     cpe-at-requires
     gaps-of-requires
     swap-cost-requires
+    add-better
     better-requires
     returns-2)

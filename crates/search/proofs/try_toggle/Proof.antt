@@ -2,6 +2,7 @@
 use borrow.Author.Tests.{eq-eqb, ne-eqb}
 use borrow.Author.Needs.{needs}
 use Rattle.search.specs.Search.{tryToggle}
+use Rattle.search.proofs.FastLaws.{move-toggle}
 use Rattle.search.proofs.try_toggle.Statement.{statement}
 use Rattle.search.proofs.try_toggle.Tie as tie
 
@@ -14,12 +15,6 @@ mul-values-at c = search needs
 
 values-at-requires : tie.Need-values-at-requires
 values-at-requires c κs = search needs
-
-mul-values-at-2 : tie.Need-mul-values-at-2
-mul-values-at-2 c = search needs
-
-values-at-requires-2 : tie.Need-values-at-requires-2
-values-at-requires-2 c κs = search needs
 
 less-requires : tie.Need-less-requires
 less-requires c κs = search needs
@@ -34,12 +29,13 @@ returns-2 : tie.Need-returns-2
 unfolding tryToggle
 returns-2 c =
     rw (
-      ne-eqb _ _ (c .before .before .before .before .before .if1 .left),
+      ne-eqb _ _ (c .before .before .before .before .if1 .left),
       c .better .ensures,
       c .before .toggle-cost .ensures,
       c .before .before .less .ensures,
-      c .before .before .before .values-at2 .ensures,
-      c .before .before .before .before .values-at .ensures,
+      c .before .before .before .values-at .ensures,
+      c .before .before .before .before .before .before .before .pre .0,
+      move-toggle _ (c .before .before .before .before .before .before .before .pre .1 .1),
     )
 
 pub try-toggle-spec : {M : Type 1} → statement M
@@ -49,8 +45,6 @@ try-toggle-spec =
     returns
     mul-values-at
     values-at-requires
-    mul-values-at-2
-    values-at-requires-2
     less-requires
     toggle-cost-requires
     better-requires

@@ -1,89 +1,92 @@
--- `tile::refine_tile` meets its contract: between two rows the slices are the definition's state (`Walked`). Assumes nothing.
-use mathlib.Core.Path.{_≡_, sym, _∙_}
-use Prim.Native.Nat.{ℕ, _+_, _-_, _*_, _≤_}
+-- `tile::refine_tile` meets its contract: the tables are those of the kernels and the window. Assumes nothing.
+use mathlib.Core.Path.{_≡_, refl, _∙_}
+use Prim.Native.Nat.{_≤_}
 use native.Mathlib.Omega.{arith}
-use lib.ListN.{length}
 use borrow.Author.Needs.{needs}
-use Rattle.base.specs.declared.Rect.{Rect}
-use Rattle.base.specs.Loop.{fromTo}
-use Rattle.base.proofs.LoopLaws.{fromTo-none, fromTo-more}
-use Rattle.search.specs.Shared.{Shared, shared}
-use Rattle.tile.specs.Tile.{State, state, refineRow, refineTile}
-use Rattle.tile.proofs.Keeps.{row-sound}
-use Rattle.tile.proofs.Walked.{Walked, walked-none, walked-more, ready-again, row-most}
+use Rattle.base.specs.Loop.{table}
+use Rattle.search.specs.Fast.{Tables}
+use Rattle.search.proofs.Window.{kernel-fits, ready-limits}
 use Rattle.tile.proofs.refine_tile.Statement.{statement}
 use Rattle.tile.proofs.refine_tile.Tie as tie
 
--- the rows above row y
-abbrev done : Shared → Rect → Rect → ℕ → ℕ → State → State
-done S W Q from y s = fromTo from y (refineRow S W Q) s
+columns : (s : tie.Start) → s .args .w .x0 ≤ s .args .w .x1
+columns s = let k = s .pre .1 in omega (arith, k .left, k .x-order, k .right, k .in-x)
 
-abbrev Inv-loop : tie.InvT-loop
-Inv-loop cpe₀ indices₀ pinned inks cpp count t w q end y₀ n₀ cpe indices y n =
-    (y₀ ≤ y) × (y ≤ end) × Walked (shared t count pinned inks cpp) w ((y - y₀) * 4096) cpe₀ indices₀ n₀ cpe indices n (done (shared t count pinned inks cpp) w q y₀ y (state cpe₀ indices₀ n₀))
+slice-aggregate-fill-gaps : tie.Need-slice-aggregate-fill-gaps
+slice-aggregate-fill-gaps c = search needs
 
-abbrev μ-loop : tie.MeasureT-loop
-μ-loop cpe₀ indices₀ pinned inks cpp count t w q end y₀ n₀ cpe indices y n = end - y
+lum-kernel-requires : tie.Need-lum-kernel-requires
+lum-kernel-requires c κs = search needs
 
-loop-holds : tie.Need-loop-holds Inv-loop μ-loop
-loop-holds c =
-    let q = c .before .before .before .before .before .args .q in
-    let none : (q .y0 - q .y0) * 4096 ≡ 0 = omega arith in
-    (omega arith, c .before .before .before .before .before .pre .1 .y-order, rw none (walked-none _ (c .before .before .before .before .before .pre .0) (sym (fromTo-none (q .y0) (q .y0) _ _ (omega arith)))))
+fill-gaps-requires : tie.Need-fill-gaps-requires
+fill-gaps-requires c κs =
+    let s = c .before .before .before .before .before .before .before in
+    let r = s .pre .0 in
+    rw (c .lum-kernel .ensures) (refl, (kernel-fits 0 (s .args .t .lum) (s .args .cpp .now) (omega arith) (r .limits .lum-limit) (r .cpp-room), r .lum-least))
 
-refine-row-requires : tie.Need-refine-row-requires Inv-loop μ-loop
-refine-row-requires c κs =
-    let start = c .before .before .before .before .before .before .before .before .before in
-    let w = c .before .before .before .loop .inv .2 in
-    let k = start .pre .1 in
-    (ready-again (start .pre .0) w, (k, (c .before .before .before .loop .inv .0, c .before .before .loop-test .taken, omega (arith, w .count, k .in-y, start .pre .0 .limits .height-limit, c .before .before .loop-test .taken))))
+slice-aggregate-fill-gaps-2 : tie.Need-slice-aggregate-fill-gaps-2
+slice-aggregate-fill-gaps-2 c = search needs
 
-add-y : tie.Need-add-y Inv-loop μ-loop
-add-y c = search needs
+chroma-kernel-requires : tie.Need-chroma-kernel-requires
+chroma-kernel-requires c κs = search needs
 
-loop-less : tie.Need-loop-less Inv-loop μ-loop
-loop-less c = search needs
+fill-gaps-requires-2 : tie.Need-fill-gaps-requires-2
+fill-gaps-requires-2 c κs =
+    let s = c .before .before .before .before .before .before .before .before .before .before .before in
+    let r = s .pre .0 in
+    rw (c .chroma-kernel .ensures) (refl, (kernel-fits 4225 (s .args .t .chroma) (s .args .cpp .now) (omega arith) (r .limits .chroma-limit) (r .cpp-room), r .chroma-least))
 
-loop-again : tie.Need-loop-again Inv-loop μ-loop
-loop-again c =
-    let start = c .before .before .before .before .before .before .before .before .before .before .before .before .before .before in
-    let a = start .args in
-    let S : Shared = shared (a .t) (a .count) (a .pinned .now) (a .inks .now) (a .cpp .now) in
-    let h = c .before .before .before .before .before .before .before .before .loop .inv .0 in
-    let w = c .before .before .before .before .before .before .before .before .loop .inv .2 in
-    let y = c .before .before .before .before .before .before .before .before .loop .y in
-    let k : (y + 1 - a .q .y0) * 4096 ≡ (y - a .q .y0) * 4096 + 4096 = omega (arith, h) in
-    let s : State = state (c .before .before .before .before .before .before .before .before .loop .cpe) (c .before .before .before .before .before .before .before .before .loop .indices) (c .before .before .before .before .before .before .before .before .loop .n) in (
-      omega (arith, h),
-      omega (arith, c .before .before .before .before .before .before .before .loop-test .taken),
-      rw (fromTo-more _ _ _ _ h, k) (walked-more 4096 (refineRow S (a .w) (a .q) y) _ _ _ w (c .before .before .before .before .refine-row .ensures)
-          (row-sound S (a .w) (a .q) (a .indices .now) (length (a .cpe .now)) y s (start .pre .1) h (c .before .before .before .before .before .before .before .loop-test .taken) (w .sound))
-          (omega (arith, row-most S (a .w) (a .q) y s, start .pre .1 .in-x, start .pre .0 .limits .width-limit))),
-    )
+slice-aggregate-fill-steps : tie.Need-slice-aggregate-fill-steps
+slice-aggregate-fill-steps c = search needs
 
-same-length : tie.Need-same-length Inv-loop μ-loop
-same-length c = c .before .loop .inv .2 .sound .cpe
+fill-steps-requires : tie.Need-fill-steps-requires
+fill-steps-requires c κs =
+    let s = c .before .before .before .before .before .before .before .before .before .before .before .before .before .before in
+    (refl, (ready-limits (s .pre .0) .0, columns s))
 
-same-length-2 : tie.Need-same-length-2 Inv-loop μ-loop
-same-length-2 c = c .before .loop .inv .2 .sound .room ∙ sym (c .before .before .before .before .before .before .before .pre .0 .indices-room)
+centres-of-requires : tie.Need-centres-of-requires
+centres-of-requires c κs = search needs
 
-returns : tie.Need-returns Inv-loop μ-loop
-unfolding refineTile
-returns c =
-    let e : c .before .loop .y ≡ c .before .before .before .before .before .before .before .args .q .y1 = omega (arith, c .before .loop .inv .1, c .loop-test .left) in
-    rw e at (c .before .loop .inv .2 .same)
+slice-aggregate-refine-rows : tie.Need-slice-aggregate-refine-rows
+slice-aggregate-refine-rows c = search needs
+
+slice-aggregate-refine-rows-2 : tie.Need-slice-aggregate-refine-rows-2
+slice-aggregate-refine-rows-2 c = search needs
+
+slice-aggregate-refine-rows-3 : tie.Need-slice-aggregate-refine-rows-3
+slice-aggregate-refine-rows-3 c = search needs
+
+refine-rows-requires : tie.Need-refine-rows-requires
+refine-rows-requires c κs =
+    let s = c .before .before .before .before .before .before .before .before .before .before .before .before .before .before .before .before .before .before .before .before .before .before in
+    (s .pre .0, (s .pre .1, (record { lum-gaps = rw (← c .before .before .before .before .before .before .before .before .before .before .before .before .before .before .before .lum-kernel .ensures) (c .before .before .before .before .before .before .before .before .before .before .before .before .before .before .fill-gaps .ensures); chroma-gaps = rw (← c .before .before .before .before .before .before .before .before .before .before .before .chroma-kernel .ensures) (c .before .before .before .before .before .before .before .before .before .before .fill-gaps2 .ensures); all-steps = c .before .before .before .before .before .before .before .fill-steps .ensures }, c .before .before .before .before .before .centres-of .ensures)))
+
+same-length : tie.Need-same-length
+same-length c = search needs
+
+same-length-2 : tie.Need-same-length-2
+same-length-2 c = search needs
+
+returns : tie.Need-returns
+returns c = search needs
 
 pub refine-tile-spec : {M : Type 1} → statement M
 refine-tile-spec =
     tie.close
     (tie.spec
-    Inv-loop
-    μ-loop
-    loop-holds
-    refine-row-requires
-    add-y
-    loop-less
-    loop-again
+    slice-aggregate-fill-gaps
+    lum-kernel-requires
+    fill-gaps-requires
+    slice-aggregate-fill-gaps-2
+    chroma-kernel-requires
+    fill-gaps-requires-2
+    slice-aggregate-fill-steps
+    fill-steps-requires
+    centres-of-requires
+    slice-aggregate-refine-rows
+    slice-aggregate-refine-rows-2
+    slice-aggregate-refine-rows-3
+    refine-rows-requires
     same-length
     same-length-2
     returns)

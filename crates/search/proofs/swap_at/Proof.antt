@@ -1,0 +1,73 @@
+-- `search::swap_at` meets its contract: each arm is the one that the test picks. Assumes nothing.
+use native.Mathlib.Omega.{arith}
+use borrow.Author.Tests.{eq-eqb, ne-eqb}
+use borrow.Author.Needs.{needs}
+use Rattle.search.specs.Fast.{swapBy}
+use Rattle.search.proofs.FastLaws.{move-swap}
+use Rattle.search.proofs.swap_at.Statement.{statement}
+use Rattle.search.proofs.swap_at.Tie as tie
+
+shared-slice-read-kn : tie.Need-shared-slice-read-kn
+shared-slice-read-kn c = search needs
+
+cast-kn : tie.Need-cast-kn
+cast-kn c = search needs
+
+returns : tie.Need-returns
+unfolding swapBy
+returns c = simp (eq-eqb _ _ (c .if1 .taken))
+
+mul-values-at : tie.Need-mul-values-at
+mul-values-at c = search needs
+
+values-at-requires : tie.Need-values-at-requires
+values-at-requires c κs = search needs
+
+less-requires : tie.Need-less-requires
+less-requires c κs = search needs
+
+mul-values-at-2 : tie.Need-mul-values-at-2
+mul-values-at-2 c = search needs
+
+values-at-requires-2 : tie.Need-values-at-requires-2
+values-at-requires-2 c κs = search needs
+
+swap-cost-requires : tie.Need-swap-cost-requires
+swap-cost-requires c κs = search needs
+
+add-better : tie.Need-add-better
+add-better c = search needs
+
+better-requires : tie.Need-better-requires
+better-requires c κs = search needs
+
+returns-2 : tie.Need-returns-2
+unfolding swapBy
+returns-2 c =
+    rw (
+      ne-eqb _ _ (c .before .before .before .before .before .if1 .left),
+      c .better .ensures,
+      c .before .swap-cost .ensures,
+      c .before .before .values-at2 .ensures,
+      c .before .before .before .less .ensures,
+      c .before .before .before .before .values-at .ensures,
+      c .before .before .before .before .before .before .before .before .before .before .before .pre .0,
+      move-swap _ (c .before .before .before .before .before .before .before .before .before .before .before .pre .1 .1),
+    )
+
+pub swap-at-spec : {M : Type 1} → statement M
+swap-at-spec =
+    tie.close
+    (tie.spec
+    shared-slice-read-kn
+    cast-kn
+    returns
+    mul-values-at
+    values-at-requires
+    less-requires
+    mul-values-at-2
+    values-at-requires-2
+    swap-cost-requires
+    add-better
+    better-requires
+    returns-2)
