@@ -95,6 +95,9 @@ fn by_ones(
     requires { ⌜ RowFits (length (now sums)) (length (now values)) lead (length (now taps)) ⌝ }
     ensures { λ _. ⌜ Changed a b (λ i. tapSum (at (now (values .entry))) (at (now (taps .entry))) (length (now (values .entry))) lead i first (length (now (taps .entry)))) (now (sums .entry)) (now (sums .exit)) ⌝ }
 {
+    if b <= a {
+        return;
+    }
     let mut d = first;
     while d < taps.len() {
         one_tap(sums, a, b, values, taps, lead, d);

@@ -17,14 +17,17 @@ Inv-loop sums₀ a b values taps lead first d₀ sums d = (first ≤ d) × (d �
 abbrev μ-loop : tie.MeasureT-loop
 μ-loop sums₀ a b values taps lead first d₀ sums d = length taps - d
 
+returns : tie.Need-returns Inv-loop μ-loop
+returns c = changed-idle _ _ _ _ (λ i low high t. absurd (omega (arith, c .if1 .taken, low, high)))
+
 loop-holds : tie.Need-loop-holds Inv-loop μ-loop
 loop-holds c =
-    let s = c .before .before .before in
+    let s = c .before .before .before .before in
     (omega arith, s .pre .0 .1, changed-idle _ _ _ _ (λ i low high t. tap-none (at (s .args .values .now)) (at (s .args .taps .now)) (length (s .args .values .now)) (s .args .lead) i (s .args .first) t))
 
 one-tap-requires : tie.Need-one-tap-requires Inv-loop μ-loop
 one-tap-requires c κs =
-    let s = c .before .before .before .before .before .before in
+    let s = c .before .before .before .before .before .before .before in
     let h = c .before .before .loop .inv .2 .long in
     ((omega (arith, s .pre .0 .0, h), c .before .loop-test .taken), subst (λ n. RowFits n (length (s .args .values .now)) (s .args .lead) (length (s .args .taps .now))) (sym h) (s .pre .1))
 
@@ -36,7 +39,7 @@ loop-less c = search needs
 
 loop-again : tie.Need-loop-again Inv-loop μ-loop
 loop-again c =
-    let s = c .before .before .before .before .before .before .before .before .before in
+    let s = c .before .before .before .before .before .before .before .before .before .before in
     let l = c .before .before .before .before .before .loop in
     let next = add-one (l .d) in (
       omega (arith, l .inv .0),
@@ -48,9 +51,9 @@ loop-again c =
 same-length : tie.Need-same-length Inv-loop μ-loop
 same-length c = c .before .loop .inv .2 .long
 
-returns : tie.Need-returns Inv-loop μ-loop
-returns c =
-    let s = c .before .before .before .before .before in
+returns-2 : tie.Need-returns-2 Inv-loop μ-loop
+returns-2 c =
+    let s = c .before .before .before .before .before .before in
     let l = c .before .loop in
     let e : l .d ≡ length (s .args .taps .now) = omega (arith, l .inv .1, c .loop-test .left) in
     subst (λ d. Changed (s .args .a) (s .args .b) (λ i. tapSum (at (s .args .values .now)) (at (s .args .taps .now)) (length (s .args .values .now)) (s .args .lead) i (s .args .first) d) (s .args .sums .now) (l .sums)) e (l .inv .2)
@@ -61,10 +64,11 @@ by-ones-spec =
     (tie.spec
     Inv-loop
     μ-loop
+    returns
     loop-holds
     one-tap-requires
     add-d
     loop-less
     loop-again
     same-length
-    returns)
+    returns-2)
