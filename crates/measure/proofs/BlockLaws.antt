@@ -65,7 +65,7 @@ columns-in w X R C x n right p q = omega (arith, right, p, q)
 pub count-is : (w X R C past x : ℕ) → past ≡ min w (X + C) → x ≡ X - R → past - x ≡ min w (X + C) - (X - R)
 count-is w X R C past x p q = rw (p, q)
 
-pub count-most : (w X R C past x : ℕ) → past ≡ min w (X + C) → x ≡ X - R → C ≤ 64 → R ≤ 32 → past - x ≤ 96
+pub count-most : (w X R C past x : ℕ) → past ≡ min w (X + C) → x ≡ X - R → C ≤ 128 → R ≤ 32 → past - x ≤ 160
 count-most w X R C past x p q h g = omega (arith, p, q, h, g)
 
 -- a block that begins left of the blur's reach, by b columns
@@ -217,7 +217,7 @@ module _ (F : Frame) (G : Scene) (blur : List Float) (c : ℕ) (B : Block) (fits
         wide = fits .wide;
         apart = omega arith;
         room = λ i p q. let m : suc (0 + 1 * i) * B .columns ≤ B .rows * B .columns = mul-le-mul-right (B .columns) (omega (arith, to, q)) in omega (arith, m, room);
-        most = omega (arith, room, product-le (B .rows) (B .columns) 64 64 (fits .rows) (fits .columns));
+        most = omega (arith, room, product-le (B .rows) (B .columns) 64 128 (fits .rows) (fits .columns));
         taps = λ i p q. (omega (arith, to, q, low), let m : suc (y + reach - B .y - i) * (reach + 1) ≤ (reach + 1) * (reach + 1) = mul-le-mul-right (reach + 1) (row-lt y reach (B .y) a i from p) in omega (arith, m, size));
         few = let s : reach + 1 ≤ 33 = omega (arith, most) in omega (arith, size, mul-le-mul s s);
       }
@@ -285,11 +285,11 @@ pub record NextBlock (F : Frame) (B : Block) (x rows : ℕ) : Type 0 where
   pub on : x < x + B .columns
   pub within : x + B .columns ≤ F .width + 2 * F .radius
 
-pub next-block : (F : Frame) (B : Block) (x y rows : ℕ) → B ≡ block x y (min 64 (F .width + 2 * F .radius - x)) rows → x < F .width + 2 * F .radius → rows ≤ 64 → y + rows ≤ F .height + 2 * F .radius → NextBlock F B x rows
+pub next-block : (F : Frame) (B : Block) (x y rows : ℕ) → B ≡ block x y (min 128 (F .width + 2 * F .radius - x)) rows → x < F .width + 2 * F .radius → rows ≤ 64 → y + rows ≤ F .height + 2 * F .radius → NextBlock F B x rows
 next-block F B x y rows e h few bottom =
     let end = F .width + 2 * F .radius in
-    let some : 1 ≤ min 64 (end - x) = omega (arith, h) in
-    let most : x + min 64 (end - x) ≤ end = omega (arith, h) in
+    let some : 1 ≤ min 128 (end - x) = omega (arith, h) in
+    let most : x + min 128 (end - x) ≤ end = omega (arith, h) in
     rw e (record { fits = record { wide = some; columns = omega arith; rows = few; right = most; bottom = bottom }; height = refl; on = omega (arith, some); within = most })
 
 -- the sums of a band's rows, which stand in a list

@@ -57,7 +57,7 @@ lineSquares out n sums i = upTo (λ j s. s +f cellAt n out i j *f cellAt n out i
 -- a block lies in the frame, and is not larger than the room for one
 pub record BlockFits (F : Frame) (B : Block) : Type 0 where
   pub wide : 1 ≤ B .columns
-  pub columns : B .columns ≤ 64
+  pub columns : B .columns ≤ 128
   pub rows : B .rows ≤ 64
   pub right : B .x + B .columns ≤ F .width + 2 * F .radius
   pub bottom : B .y + B .rows ≤ F .height + 2 * F .radius

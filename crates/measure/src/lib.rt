@@ -1,6 +1,6 @@
 // The perceived error of a halftone: `perceived_error` of dbs.rs, given the blurs. It blurs the error,
 // with no correlation shortcut. Pins play no part. The blurred error is worked out in blocks of at most
-// 64 columns and rows, so that what a block is made of is small.
+// 128 columns and 64 rows, so that what a block is made of is small.
 use correlate::Lines;
 use error::channel_errors;
 ghost use mathlib.Core.Path.{_≡_};
@@ -147,7 +147,7 @@ fn square_row(s: f64, row: &[f64]) -> f64
 
 // The squares of each line of n values, added to that line's sum.
 fn square_lines(sums: &mut [f64], out: &[f64], n: usize)
-    requires { ⌜ (length (now sums) ≤ 64) × (n ≤ 64) × (length (now out) ≡ length (now sums) * n) ⌝ }
+    requires { ⌜ (length (now sums) ≤ 64) × (n ≤ 128) × (length (now out) ≡ length (now sums) * n) ⌝ }
     ensures { λ _. ⌜ now (sums .exit) ≡ table (length (now (sums .entry))) (lineSquares (now (out .entry)) n (now (sums .entry))) ⌝ }
 {
     for i in 0..sums.len() {
@@ -232,8 +232,8 @@ fn square_block(
     let x = correlate::cut(b.x, 2 * f.radius);
     let m = correlate::smaller(f.width, b.x + b.columns) - x;
     let n = b.rows * b.columns;
-    let mut line = [0.0f64; 96];
-    let mut out = [0.0f64; 4096];
+    let mut line = [0.0f64; 160];
+    let mut out = [0.0f64; 8192];
     square_in(
         lut,
         pixels,
@@ -254,12 +254,12 @@ fn square_block(
 // The next block of a band, which begins in column x and row y.
 fn block_at(f: Frame, x: usize, y: usize, rows: usize) -> Block
     requires { ⌜ (f .width ≤ 4096) × (f .radius ≤ 16) × (x < f .width + 2 * f .radius) ⌝ }
-    ensures { λ b. ⌜ b ≡ block x y (min 64 (f .width + 2 * f .radius - x)) rows ⌝ }
+    ensures { λ b. ⌜ b ≡ block x y (min 128 (f .width + 2 * f .radius - x)) rows ⌝ }
 {
     Block {
         x,
         y,
-        columns: correlate::smaller(64, f.width + 2 * f.radius - x),
+        columns: correlate::smaller(128, f.width + 2 * f.radius - x),
         rows,
     }
 }

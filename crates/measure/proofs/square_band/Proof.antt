@@ -70,7 +70,7 @@ loop-again c =
       b .within,
       refl,
       omega (arith, c .before .before .before .square-block .kept, l .inv .2),
-      band-turn (s .args .f) (scene (s .args .pixels .now) (s .args .indices .now) (s .args .pinned .now) (s .args .inks .now)) (s .args .blur .now) (s .args .c) (s .args .y) (length (c .before .before .before .before .before .before .before .before .before .before .before .before .fill-zero .last .0)) (l .x) _ (c .before .before .before .before .before .block-at .result) (l .sums) _ (c .before .before .before .before .before .block-at .ensures ∙ ap (λ (r : ℕ). block (l .x) (s .args .y) (min 64 (s .args .f .width + 2 * s .args .f .radius - l .x)) r) (l .inv .2)) (l .inv .3) (c .before .before .before .square-block .ensures),
+      band-turn (s .args .f) (scene (s .args .pixels .now) (s .args .indices .now) (s .args .pinned .now) (s .args .inks .now)) (s .args .blur .now) (s .args .c) (s .args .y) (length (c .before .before .before .before .before .before .before .before .before .before .before .before .fill-zero .last .0)) (l .x) _ (c .before .before .before .before .before .block-at .result) (l .sums) _ (c .before .before .before .before .before .block-at .ensures ∙ ap (λ (r : ℕ). block (l .x) (s .args .y) (min 128 (s .args .f .width + 2 * s .args .f .radius - l .x)) r) (l .inv .2)) (l .inv .3) (c .before .before .before .square-block .ensures),
     )
 
 same-length : tie.Need-same-length Inv-loop μ-loop

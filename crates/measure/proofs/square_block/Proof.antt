@@ -28,7 +28,7 @@ sub-m c = search needs
 mul-n : tie.Need-mul-n
 mul-n c =
     let b = c .before .before .before .before .before .before .before .before .before .before .before .before .pre .1 .1 .1 .0 in
-    omega (arith, product-le _ _ 64 64 (b .rows) (b .columns))
+    omega (arith, product-le _ _ 64 128 (b .rows) (b .columns))
 
 array-borrow-prefix-line : tie.Need-array-borrow-prefix-line
 array-borrow-prefix-line c = search needs
@@ -41,19 +41,19 @@ slice-aggregate-square-in c =
 array-borrow-prefix-out : tie.Need-array-borrow-prefix-out
 array-borrow-prefix-out c =
     let b = c .before .before .before .before .before .before .before .before .before .before .before .before .before .pre .1 .1 .1 .0 in
-    omega (arith, product-le _ _ 64 64 (b .rows) (b .columns))
+    omega (arith, product-le _ _ 64 128 (b .rows) (b .columns))
 
 slice-aggregate-square-in-2 : tie.Need-slice-aggregate-square-in-2
 slice-aggregate-square-in-2 c =
     let b = c .before .before .before .before .before .before .before .before .before .before .before .before .before .before .pre .1 .1 .1 .0 in
-    sym (length-take-le _ _ (omega (arith, product-le _ _ 64 64 (b .rows) (b .columns))))
+    sym (length-take-le _ _ (omega (arith, product-le _ _ 64 128 (b .rows) (b .columns))))
 
 square-in-requires : tie.Need-square-in-requires
 square-in-requires c κs =
     let s = c .before .before .before .before .before .before .before .before .before .before .before .before .before .before .before in
     let b = s .pre .1 .1 .1 .0 in
     let count = count-is (s .args .f .width) (s .args .b .x) (2 * s .args .f .radius) (s .args .b .columns) _ _ (c .before .before .before .before .smaller .ensures) (c .before .before .before .before .before .before .cut .ensures) in
-    (s .pre .0, (s .pre .1 .0, (s .pre .1 .1 .0, (b, (length-take-le _ _ (count-most (s .args .f .width) (s .args .b .x) (2 * s .args .f .radius) (s .args .b .columns) _ _ (c .before .before .before .before .smaller .ensures) (c .before .before .before .before .before .before .cut .ensures) (s .pre .1 .1 .1 .0 .columns) (omega (arith, s .pre .1 .0 .most))) ∙ count, length-take-le _ _ (omega (arith, product-le _ _ 64 64 (b .rows) (b .columns))), s .pre .1 .1 .1 .1)))))
+    (s .pre .0, (s .pre .1 .0, (s .pre .1 .1 .0, (b, (length-take-le _ _ (count-most (s .args .f .width) (s .args .b .x) (2 * s .args .f .radius) (s .args .b .columns) _ _ (c .before .before .before .before .smaller .ensures) (c .before .before .before .before .before .before .cut .ensures) (s .pre .1 .1 .1 .0 .columns) (omega (arith, s .pre .1 .0 .most))) ∙ count, length-take-le _ _ (omega (arith, product-le _ _ 64 128 (b .rows) (b .columns))), s .pre .1 .1 .1 .1)))))
 
 same-length : tie.Need-same-length
 same-length c = search needs

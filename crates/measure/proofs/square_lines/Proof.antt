@@ -23,11 +23,11 @@ abbrev μ-loop : tie.MeasureT-loop
 
 -- the line lies in the list
 room : (c : tie.In-loop Inv-loop μ-loop) →
-    (c .before .loop .i * c .before .before .before .before .args .n + c .before .before .before .before .args .n ≤ length (c .before .before .before .before .args .out .now)) × (length (c .before .before .before .before .args .out .now) ≤ 4096)
+    (c .before .loop .i * c .before .before .before .before .args .n + c .before .before .before .before .args .n ≤ length (c .before .before .before .before .args .out .now)) × (length (c .before .before .before .before .args .out .now) ≤ 8192)
 room c =
     let s = c .before .before .before .before in (
       omega (arith, s .pre .2, line-room (c .before .loop .i) (length (s .args .sums .now)) (s .args .n) (omega (arith, c .loop-test .taken, c .before .loop .inv .1))),
-      omega (arith, s .pre .2, product-le (length (s .args .sums .now)) (s .args .n) 64 64 (s .pre .0) (s .pre .1)),
+      omega (arith, s .pre .2, product-le (length (s .args .sums .now)) (s .args .n) 64 128 (s .pre .0) (s .pre .1)),
     )
 
 loop-holds : tie.Need-loop-holds Inv-loop μ-loop
