@@ -4,6 +4,7 @@ use base::Rect;
 use color::YyCxCz;
 use neighbour::Adjacent;
 use search::Move;
+use sweep::Source;
 use tiling::Tiling;
 ghost use mathlib.Core.Path.{_≡_};
 ghost use mathlib.Core.List.{[]};
@@ -103,14 +104,20 @@ fn swap_with(
     requires { ⌜ Inside w x y ⌝ }
     requires { ⌜ Inside w nx ny ⌝ }
     requires { ⌜ Writable t w (now inks) (now cpp) (length (now cpe)) (now indices) ⌝ }
+    requires { ⌜ (x ≤ nx + 1) × (nx ≤ x + 1) × (y ≤ ny + 1) × (ny ≤ y + 1) ⌝ }
     ensures { λ _. ⌜ now (cpe .exit) ≡ swapKernels (shared t 0 [] (now (inks .entry)) (now (cpp .entry))) w x y (Pixel nx ny) (now (indices .entry)) (now (cpe .entry)) ⌝ }
     ensures { λ _. ⌜ now (indices .exit) ≡ exchanged w x y (Pixel nx ny) (now (indices .entry)) ⌝ }
 {
     let k = search::index_at(indices, w, x, y);
     let kn = search::index_at(indices, w, nx, ny);
     let a = change(inks, kn, k);
-    add_round(cpe, cpp, t, w, x, y, a);
-    add_round(cpe, cpp, t, w, nx, ny, negated(a));
+    let m = Source { x, y, a };
+    let n = Source {
+        x: nx,
+        y: ny,
+        a: negated(a),
+    };
+    sweep::add_both(cpe, cpp, t, w, m, n);
     put_index(indices, w, x, y, kn);
     put_index(indices, w, nx, ny, k);
 }

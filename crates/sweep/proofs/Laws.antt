@@ -118,13 +118,13 @@ unfolding addKernels
 length-addKernels cpp T W mx my a f = length-sweep Chrominance a cpp (chromaKernel T) W mx my _ ∙ length-sweep Luminance a cpp (lumKernel T) W mx my f
 
 module _ (b n : ℕ) (xs : List Float) (in-list : b ≤ length xs) where
-  grow-part : (j : ℕ) (v : Float) (t : List Float) → j < length t → grow (b + j) v (putMid b n xs t) ≡ putMid b n xs (grow j v t)
+  pub grow-part : (j : ℕ) (v : Float) (t : List Float) → j < length t → grow (b + j) v (putMid b n xs t) ≡ putMid b n xs (grow j v t)
   unfolding grow
   grow-part j v t h =
       ap (λ (z : Float). set (putMid b n xs t) (b + j) (z +f v)) (get-part b n xs in-list nan t j h)
       ∙ set-part b n xs in-list t j (getD t j nan +f v) h
 
-  addAt-part : (h : Channels) (a : YyCxCz) (v : Float) (j : ℕ) (t : List Float) → j + 2 < length t → addAt h a v (b + j) (putMid b n xs t) ≡ putMid b n xs (addAt h a v j t)
+  pub addAt-part : (h : Channels) (a : YyCxCz) (v : Float) (j : ℕ) (t : List Float) → j + 2 < length t → addAt h a v (b + j) (putMid b n xs t) ≡ putMid b n xs (addAt h a v j t)
   unfolding addAt
   addAt-part Luminance a v j t h = grow-part j _ t (omega arith)
   addAt-part Chrominance a v j t h =
@@ -136,13 +136,13 @@ module _ (b n : ℕ) (xs : List Float) (in-list : b ≤ length xs) where
       ∙ grow-part (j + 2) _ _ (omega (arith, length-grow (j + 1) (a .cx *f v) t))
 
 -- the i-th pixel of the row, in `cpe` and in the kernel
-pixel-place : (q x0 x i : ℕ) → x0 ≤ x → 3 * (q + (x + i - x0)) + 0 ≡ 3 * (q + (x - x0)) + 3 * i
+pub pixel-place : (q x0 x i : ℕ) → x0 ≤ x → 3 * (q + (x + i - x0)) + 0 ≡ 3 * (q + (x - x0)) + 3 * i
 pixel-place q x0 x i h = omega arith
 
-kernel-place : (b q x r m i : ℕ) → m ≤ x + r → b + (q + (x + i + r - m)) ≡ b + (q + (x + r - m)) + i
+pub kernel-place : (b q x r m i : ℕ) → m ≤ x + r → b + (q + (x + i + r - m)) ≡ b + (q + (x + r - m)) + i
 kernel-place b q x r m i h = omega arith
 
-get-mid : (b n i : ℕ) (l : List Float) → i < n → getD (midOf b n l) i nan ≡ getD l (b + i) nan
+pub get-mid : (b n i : ℕ) (l : List Float) → i < n → getD (midOf b n l) i nan ≡ getD l (b + i) nan
 get-mid b n i l h = getD-take n (drop b l) i nan h ∙ getD-drop b l i nan
 
 module _ (h : Channels) (a : YyCxCz) (cpp : List Float) (k : Kernel2D) (W : Rect) (mx my y : ℕ)

@@ -49,7 +49,7 @@ grow-put W x y c v f =
     rw e
 
 -- value c is one of these channels
-abbrev Of : Channels → ℕ → Type 0
+abbrev pub Of : Channels → ℕ → Type 0
 Of Luminance c = c < 1
 Of Chrominance c = 0 < c
 
@@ -64,7 +64,7 @@ module _ (W : Rect) (x y : ℕ) (i : Inside W x y) where
       let p = place-inj 3 W x y c u w e i j b d q in n (p .0) (p .1) (p .2)))
 
   -- a pixel to which a kernel's value v is added: this one
-  addAt-here : (h : Channels) (a : YyCxCz) (v : Float) (c : ℕ) (f : List Float) → c < 3 → Of h c → length f ≡ 3 * area W →
+  pub addAt-here : (h : Channels) (a : YyCxCz) (v : Float) (c : ℕ) (f : List Float) → c < 3 → Of h c → length f ≡ 3 * area W →
       cell nan 3 W (addAt h a v (place 3 W x y 0) f) x y c ≡ cell nan 3 W f x y c +f factorOf a c *f v
   unfolding addAt
   addAt-here Luminance a v zero f b o n =
@@ -79,7 +79,7 @@ module _ (W : Rect) (x y : ℕ) (i : Inside W x y) where
   addAt-here Chrominance a v (suc (suc (suc c))) f b o n = absurd (omega arith)
 
   -- or another, or another channel
-  addAt-other : (h : Channels) (a : YyCxCz) (v : Float) (c u w : ℕ) (f : List Float) → c < 3 → Inside W u w → (x ≡ u → y ≡ w → Of h c → ⊥) →
+  pub addAt-other : (h : Channels) (a : YyCxCz) (v : Float) (c u w : ℕ) (f : List Float) → c < 3 → Inside W u w → (x ≡ u → y ≡ w → Of h c → ⊥) →
       cell nan 3 W (addAt h a v (place 3 W u w 0) f) x y c ≡ cell nan 3 W f x y c
   unfolding addAt
   addAt-other Luminance a v c u w f b j n =
@@ -91,21 +91,21 @@ module _ (W : Rect) (x y : ℕ) (i : Inside W x y) where
 -- ---- one kernel
 
 -- along one axis: what the footprint holds
-in-footprint : (m r a b v : ℕ) → a ≤ v → v < b → m ≤ v + r → v ≤ m + r → (first m r a ≤ v) × (v < past m r b)
+pub in-footprint : (m r a b v : ℕ) → a ≤ v → v < b → m ≤ v + r → v ≤ m + r → (first m r a ≤ v) × (v < past m r b)
 in-footprint m r a b v p q l h = (omega arith, omega arith)
 
-of-footprint : (m r a b v : ℕ) → first m r a ≤ v → v < past m r b → (a ≤ v) × (v < b) × (m ≤ v + r) × (v ≤ m + r)
+pub of-footprint : (m r a b v : ℕ) → first m r a ≤ v → v < past m r b → (a ≤ v) × (v < b) × (m ≤ v + r) × (v ≤ m + r)
 of-footprint m r a b v p q = (omega arith, omega arith, omega arith, omega arith)
 
-abbrev Sized : Rect → List Float → Type 0
+abbrev pub Sized : Rect → List Float → Type 0
 Sized W f = length f ≡ 3 * area W
 
 module _ (h : Channels) (a : YyCxCz) (cpp : List Float) (k : Kernel2D) (W : Rect) (mx my : ℕ) where
-  sized-row : (w : ℕ) (f : List Float) → Sized W f → Sized W (sweepRow h a cpp k W mx my w f)
+  pub sized-row : (w : ℕ) (f : List Float) → Sized W f → Sized W (sweepRow h a cpp k W mx my w f)
   unfolding sweepRow sweepPixel
   sized-row w f n = fromTo-keeps (Sized W) _ _ _ f (λ u p q t e. length-addAt h a _ _ t ∙ e) n
 
-  sized-sweep : (f : List Float) → Sized W f → Sized W (sweepOf h a cpp k W mx my f)
+  pub sized-sweep : (f : List Float) → Sized W f → Sized W (sweepOf h a cpp k W mx my f)
   unfolding sweepOf
   sized-sweep f n = fromTo-keeps (Sized W) _ _ _ f (λ w p q t e. sized-row w t e) n
 
@@ -123,7 +123,7 @@ module _ (h : Channels) (a : YyCxCz) (cpp : List Float) (k : Kernel2D) (W : Rect
     abbrev read : List Float → Float
     read f = cell nan 3 W f x y c
 
-    row-miss : (w : ℕ) (f : List Float) → first my (k .radius) (W .y0) ≤ w → w < past my (k .radius) (W .y1) → ((u : ℕ) → x ≡ u → y ≡ w → Near (k .radius) mx my u w → Of h c → ⊥) →
+    pub row-miss : (w : ℕ) (f : List Float) → first my (k .radius) (W .y0) ≤ w → w < past my (k .radius) (W .y1) → ((u : ℕ) → x ≡ u → y ≡ w → Near (k .radius) mx my u w → Of h c → ⊥) →
         read (sweepRow h a cpp k W mx my w f) ≡ read f
     unfolding sweepRow sweepPixel
     row-miss w f l m away =
@@ -131,13 +131,13 @@ module _ (h : Channels) (a : YyCxCz) (cpp : List Float) (k : Kernel2D) (W : Rect
         let s = swept u w p q l m in
         addAt-other W x y i h a _ c u w t b (s .0) (λ ex ey o. away u ex ey (s .1) o) ∙ e) refl
 
-    sweep-miss : (f : List Float) → (Near (k .radius) mx my x y → Of h c → ⊥) → read (sweepOf h a cpp k W mx my f) ≡ read f
+    pub sweep-miss : (f : List Float) → (Near (k .radius) mx my x y → Of h c → ⊥) → read (sweepOf h a cpp k W mx my f) ≡ read f
     unfolding sweepOf
     sweep-miss f away =
         fromTo-keeps (λ (t : List Float). read t ≡ read f) _ _ _ f (λ w p q t e.
         row-miss w t p q (λ u ex ey near o. away (rw (ex, ey) near) o) ∙ e) refl
 
-    sweep-hit : (f : List Float) → Sized W f → Near (k .radius) mx my x y → Of h c →
+    pub sweep-hit : (f : List Float) → Sized W f → Near (k .radius) mx my x y → Of h c →
         read (sweepOf h a cpp k W mx my f) ≡ read f +f factorOf a c *f kernelAt cpp k (x + k .radius - mx) (y + k .radius - my)
     unfolding sweepOf sweepRow sweepPixel
     sweep-hit f n near o =

@@ -16,7 +16,8 @@ swap-with-requires c κs =
     let a = c .before .before .before .before .before .before .before .before .before .before .args in
     let h = c .before .before .before .before .before .before .before .before .before .before .pre .0 in
     let found = sym (c .before .before .before .before .before .neighbour .ensures) ∙ c .before .before .before .nx .given .1 in
-    (held-inside (a .t) (a .w) (a .x) (a .y) h, (neighbour-inside (a .t) (a .w) (a .code) (a .x) (a .y) _ _ h found .0, c .before .before .before .before .before .before .before .before .before .before .pre .1))
+    let near = neighbour-inside (a .t) (a .w) (a .code) (a .x) (a .y) _ _ h found in
+    (held-inside (a .t) (a .w) (a .x) (a .y) h, (near .0, (c .before .before .before .before .before .before .before .before .before .before .pre .1, (near .1 .low, near .1 .high, near .2 .low, near .2 .high))))
 
 enum-told : tie.Need-enum-told
 enum-told c = search needs

@@ -1,43 +1,52 @@
 -- `moves::swap_with` meets its contract: both indices are read before either is written. Assumes nothing.
 use mathlib.Core.Path.{_∙_}
+use native.Mathlib.Omega.{arith}
 use Rattle.moves.proofs.Laws.{window-limit, named-ink, small-index}
 use borrow.Author.Needs.{needs}
 use Rattle.moves.proofs.swap_with.Statement.{statement}
 use Rattle.moves.proofs.swap_with.Tie as tie
 
 index-at-requires : tie.Need-index-at-requires
-index-at-requires c κs = (c .before .before .before .before .before .pre .0, (window-limit (c .before .before .before .before .before .pre .1 .1), c .before .before .before .before .before .pre .1 .1 .indices-room))
+index-at-requires c κs = (c .before .before .before .before .before .pre .0, (window-limit (c .before .before .before .before .before .pre .1 .1 .0), c .before .before .before .before .before .pre .1 .1 .0 .indices-room))
 
 index-at-requires-2 : tie.Need-index-at-requires-2
-index-at-requires-2 c κs = (c .before .before .before .before .before .before .before .pre .1 .0, (window-limit (c .before .before .before .before .before .before .before .pre .1 .1), c .before .before .before .before .before .before .before .pre .1 .1 .indices-room))
+index-at-requires-2 c κs = (c .before .before .before .before .before .before .before .pre .1 .0, (window-limit (c .before .before .before .before .before .before .before .pre .1 .1 .0), c .before .before .before .before .before .before .before .pre .1 .1 .0 .indices-room))
 
 change-requires : tie.Need-change-requires
 change-requires c κs =
-    let w = c .before .before .before .before .before .before .before .before .pre .1 .1 in
+    let w = c .before .before .before .before .before .before .before .before .pre .1 .1 .0 in
     rw (c .before .before .index-at .ensures, c .index-at2 .ensures) (named-ink w (c .before .before .before .before .before .before .before .before .args .nx) (c .before .before .before .before .before .before .before .before .args .ny) (c .before .before .before .before .before .before .before .before .pre .1 .0), named-ink w (c .before .before .before .before .before .before .before .before .args .x) (c .before .before .before .before .before .before .before .before .args .y) (c .before .before .before .before .before .before .before .before .pre .0))
-
-add-round-requires : tie.Need-add-round-requires
-add-round-requires c κs = search needs
 
 negated-requires : tie.Need-negated-requires
 negated-requires c κs = search needs
 
-add-round-requires-2 : tie.Need-add-round-requires-2
-add-round-requires-2 c κs =
-    let w = c .before .before .before .before .before .before .before .before .before .before .before .before .before .before .before .pre .1 .1 in
-    (c .before .before .before .before .before .before .before .before .before .before .before .before .before .before .before .pre .1 .0, (w .limits, (w .within, (w .cpp-room, c .before .before .before .before .add-round .kept .0 ∙ w .cpe))))
+add-both-requires : tie.Need-add-both-requires
+add-both-requires c κs =
+    let s = c .before .before .before .before .before .before .before .before .before .before .before in
+    let w = s .pre .1 .1 .0 in
+    let b = s .pre .1 .1 .1 in
+    let window = window-limit w in (
+      record { most = w .limits .lum-limit; room = omega (arith, w .cpp-room); all = w .cpp-room },
+      (
+        record { most = w .limits .chroma-limit; room = omega (arith, w .cpp-room); all = w .cpp-room },
+        (
+          w .cpe,
+          record { one = s .pre .0; two = s .pre .1 .0; right-limit = window .0; bottom-limit = window .1; x-low = b .0; x-high = b .1; y-low = b .2; y-high = b .3 },
+        ),
+      ),
+    )
 
 put-index-requires : tie.Need-put-index-requires
 put-index-requires c κs =
-    let w = c .before .before .before .before .before .before .before .before .before .before .before .before .before .before .before .before .before .before .before .pre .1 .1 in
-    let j = small-index w (c .before .before .before .before .before .before .before .before .before .before .before .before .before .before .before .before .before .before .before .args .nx) (c .before .before .before .before .before .before .before .before .before .before .before .before .before .before .before .before .before .before .before .args .ny) (c .before .before .before .before .before .before .before .before .before .before .before .before .before .before .before .before .before .before .before .pre .1 .0) in
-    (c .before .before .before .before .before .before .before .before .before .before .before .before .before .before .before .before .before .before .before .pre .0, ((window-limit w .0, window-limit w .1, rw (c .before .before .before .before .before .before .before .before .before .before .before .index-at2 .ensures) j), w .indices-room))
+    let w = c .before .before .before .before .before .before .before .before .before .before .before .before .before .before .before .pre .1 .1 .0 in
+    let j = small-index w (c .before .before .before .before .before .before .before .before .before .before .before .before .before .before .before .args .nx) (c .before .before .before .before .before .before .before .before .before .before .before .before .before .before .before .args .ny) (c .before .before .before .before .before .before .before .before .before .before .before .before .before .before .before .pre .1 .0) in
+    (c .before .before .before .before .before .before .before .before .before .before .before .before .before .before .before .pre .0, ((window-limit w .0, window-limit w .1, rw (c .before .before .before .before .before .before .before .index-at2 .ensures) j), w .indices-room))
 
 put-index-requires-2 : tie.Need-put-index-requires-2
 put-index-requires-2 c κs =
-    let w = c .before .before .before .before .before .before .before .before .before .before .before .before .before .before .before .before .before .before .before .before .before .before .before .pre .1 .1 in
-    let j = small-index w (c .before .before .before .before .before .before .before .before .before .before .before .before .before .before .before .before .before .before .before .before .before .before .before .args .x) (c .before .before .before .before .before .before .before .before .before .before .before .before .before .before .before .before .before .before .before .before .before .before .before .args .y) (c .before .before .before .before .before .before .before .before .before .before .before .before .before .before .before .before .before .before .before .before .before .before .before .pre .0) in
-    (c .before .before .before .before .before .before .before .before .before .before .before .before .before .before .before .before .before .before .before .before .before .before .before .pre .1 .0, ((window-limit w .0, window-limit w .1, rw (c .before .before .before .before .before .before .before .before .before .before .before .before .before .before .before .before .before .index-at .ensures) j), c .before .before .before .put-index .kept .0 ∙ w .indices-room))
+    let w = c .before .before .before .before .before .before .before .before .before .before .before .before .before .before .before .before .before .before .before .pre .1 .1 .0 in
+    let j = small-index w (c .before .before .before .before .before .before .before .before .before .before .before .before .before .before .before .before .before .before .before .args .x) (c .before .before .before .before .before .before .before .before .before .before .before .before .before .before .before .before .before .before .before .args .y) (c .before .before .before .before .before .before .before .before .before .before .before .before .before .before .before .before .before .before .before .pre .0) in
+    (c .before .before .before .before .before .before .before .before .before .before .before .before .before .before .before .before .before .before .before .pre .1 .0, ((window-limit w .0, window-limit w .1, rw (c .before .before .before .before .before .before .before .before .before .before .before .before .before .index-at .ensures) j), c .before .before .before .put-index .kept .0 ∙ w .indices-room))
 
 same-length : tie.Need-same-length
 same-length c = search needs
@@ -47,8 +56,8 @@ same-length-2 c = search needs
 
 returns : tie.Need-returns
 returns c = (
-  rw (c .before .before .before .before .before .before .before .before .before .before .add-round2 .ensures, c .before .before .before .before .before .before .before .before .before .before .before .before .before .before .before .add-round .ensures, c .before .before .before .before .before .before .before .before .before .before .before .negated .ensures, c .before .before .before .before .before .before .before .before .before .before .before .before .before .before .before .before .before .change .ensures, c .before .before .before .before .before .before .before .before .before .before .before .before .before .before .before .before .before .before .before .before .index-at .ensures, c .before .before .before .before .before .before .before .before .before .before .before .before .before .before .before .before .before .before .index-at2 .ensures),
-  rw (c .before .before .put-index2 .ensures, c .before .before .before .before .before .before .put-index .ensures, c .before .before .before .before .before .before .before .before .before .before .before .before .before .before .before .before .before .before .before .before .index-at .ensures, c .before .before .before .before .before .before .before .before .before .before .before .before .before .before .before .before .before .before .index-at2 .ensures),
+  rw (c .before .before .before .before .before .before .before .before .before .before .add-both .ensures, c .before .before .before .before .before .before .before .before .before .before .before .before .negated .ensures, c .before .before .before .before .before .before .before .before .before .before .before .before .before .change .ensures, c .before .before .before .before .before .before .before .before .before .before .before .before .before .before .before .before .index-at .ensures, c .before .before .before .before .before .before .before .before .before .before .before .before .before .before .index-at2 .ensures),
+  rw (c .before .before .put-index2 .ensures, c .before .before .before .before .before .before .put-index .ensures, c .before .before .before .before .before .before .before .before .before .before .before .before .before .before .before .before .index-at .ensures, c .before .before .before .before .before .before .before .before .before .before .before .before .before .before .index-at2 .ensures),
 )
 
 pub swap-with-spec : {M : Type 1} → statement M
@@ -58,9 +67,8 @@ swap-with-spec =
     index-at-requires
     index-at-requires-2
     change-requires
-    add-round-requires
     negated-requires
-    add-round-requires-2
+    add-both-requires
     put-index-requires
     put-index-requires-2
     same-length
