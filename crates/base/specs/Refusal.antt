@@ -1,7 +1,7 @@
 -- Refusals: a call's tests in order, each with the number and the place that it answers where it fails. The first that fails is the answer.
 use Prim.Native.Nat.{ℕ}
 use mathlib.Core.Path.{_≡_}
-use mathlib.Core.Bool.{Bool, false, cond}
+use mathlib.Core.Bool.{Bool, false, cond, _&&_}
 use mathlib.Core.List.{List, [], _∷_}
 use lib.Dec.{eqb}
 use Rattle.base.specs.declared.Status.{Status}
@@ -20,6 +20,10 @@ status number place = record { number = number; place = place }
 -- 0, 0
 abbrev pub accepted : Status
 accepted = status 0 0
+
+-- 'A call that returns 0, 0 is accepted'
+unfoldable pub isAccepted : Status → Bool
+isAccepted s = eqb (s .number) 0 && eqb (s .place) 0
 
 unfoldable pub judge : List Test → Status
 judge [] = accepted

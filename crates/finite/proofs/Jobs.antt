@@ -11,7 +11,7 @@ use lib.Ieee.{Float, nan}
 use Rattle.base.specs.declared.Rect.{Rect}
 use Rattle.base.specs.F64.{f0}
 use Rattle.base.specs.Grid.{area, place, columnAt, rowAt, valueAt, cell, crop}
-use Rattle.base.specs.Refusal.{judge, accepted}
+use Rattle.base.specs.Refusal.{judge, accepted, isAccepted}
 use Rattle.base.proofs.GridLaws.{widen, place-lt, at-inside, part-lt}
 use Rattle.tiling.specs.Tiling.{image, tile, region, tiles}
 use Rattle.tiling.proofs.TilingLaws.{region-within}
@@ -29,7 +29,7 @@ use Rattle.input.proofs.Validity.{valid-iff}
 use Rattle.prepare.specs.Prepare.{tilingOf, inksOf, cppOf, sharedOf}
 use Rattle.job.specs.declared.JobRecord.{JobRecord}
 use Rattle.job.specs.declared.Plan.{Plan}
-use Rattle.job.specs.Record.{isAccepted, jobShared}
+use Rattle.job.specs.Record.{jobShared}
 use Rattle.job.specs.Copy.{Pixels, copyOf, refinedCopy}
 use Rattle.job.specs.Open.{Opening, firstRecord, openOf}
 use Rattle.job.specs.Work.{workOf}

@@ -12,7 +12,7 @@ use lib.ListN.{set, replicate}
 use lib.Ieee.{Float}
 use Rattle.base.specs.declared.Status.{Status}
 use Rattle.base.specs.F64.{f0}
-use Rattle.base.specs.Refusal.{Test, judge, accepted, Passes}
+use Rattle.base.specs.Refusal.{Test, judge, accepted, Passes, isAccepted}
 use Rattle.base.proofs.RefusalLaws.{Numbered, accepted-of, passes-of}
 use Rattle.base.proofs.JudgeLaws.{passes-of-zero, judge-zero}
 use Rattle.tiling.specs.Tiling.{tiles}
@@ -20,7 +20,7 @@ use Rattle.input.proofs.Validity.{open-numbered}
 use Rattle.prepare.specs.Prepare.{tilingOf, inksOf, cppOf, cpeOf}
 use Rattle.tile.specs.Tile.{State, state, noProgress}
 use Rattle.job.specs.declared.JobRecord.{JobRecord}
-use Rattle.job.specs.Record.{isAccepted, jobShared, recordTests}
+use Rattle.job.specs.Record.{jobShared, recordTests}
 use Rattle.job.specs.Copy.{Pixels, pixels, copyOf, refinedCopy, writtenBack}
 use Rattle.job.specs.Open.{Opening, Opened, openTestsOf, firstRecord, zeroRecord, openOf}
 use Rattle.job.specs.Take.{Taken, taken, takeTests, takeOf}

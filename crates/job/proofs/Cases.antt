@@ -8,7 +8,7 @@ use lib.Ieee.{Float, add, sub, mul, div, neg, lt, ofBits, ofInt}
 use Rattle.base.specs.F64.{f0, f1, f2, wholef}
 use Rattle.base.specs.Grid.{width, height, area, inside, place, columnAt, rowAt, valueAt, cell, put, crop, paste}
 use Rattle.base.specs.Loop.{upTo, fromTo, table}
-use Rattle.base.specs.Refusal.{judge, accepted}
+use Rattle.base.specs.Refusal.{judge, accepted, isAccepted}
 use Rattle.eye.specs.Eye.{toDegrees, sigmaPx, blurRadius, kernelRadius, isFinitePositive, eyeTests}
 use Rattle.eye.specs.Ceil.{ceil}
 use Rattle.tiling.specs.Tiling.{image, margin, side, columns, rows, tiles, tileX, tileY, inPhase, tile, region}
@@ -21,7 +21,7 @@ use Rattle.tile.specs.Tile.{applied, visitOf, refineRow, refineTile}
 use Rattle.input.specs.Input.{pixelCount, inkCount, firstUnnamed, imageTests, inkTests, inputTests, runTests, openRunTests, openTests}
 use Rattle.error.specs.Error.{channelError, initialError}
 use Rattle.prepare.specs.Prepare.{tilingOf, errorOf}
-use Rattle.job.specs.Record.{isAccepted, pixelsOf, jobShared, radiusFits, recordTests, isDue, isWaiting, isOut, isBack}
+use Rattle.job.specs.Record.{pixelsOf, jobShared, radiusFits, recordTests, isDue, isWaiting, isOut, isBack}
 use Rattle.job.specs.Copy.{pixels, copyOf, refinedCopy, writtenBack}
 use Rattle.job.specs.Open.{Opening, openTestsOf, firstRecord, openOf}
 use Rattle.job.specs.Take.{takeTests, takeOf}

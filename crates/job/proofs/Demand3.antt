@@ -13,7 +13,7 @@ use Rattle.base.specs.F64.{f0}
 use Rattle.base.specs.declared.Rect.{Rect}
 use Rattle.base.specs.Grid.{area, Inside, place, columnAt, rowAt, valueAt, cell}
 use Rattle.base.specs.Loop.{upTo}
-use Rattle.base.specs.Refusal.{accepted}
+use Rattle.base.specs.Refusal.{accepted, isAccepted}
 use Rattle.base.proofs.LoopLaws.{upTo-ind}
 use Rattle.base.proofs.GridLaws.{at-inside, place-at}
 use Rattle.tiling.specs.Tiling.{image, tiles}
@@ -32,7 +32,7 @@ use Rattle.walk.proofs.Ends.{walk-sound}
 use Rattle.refine.proofs.Promises.{run-settled}
 use Rattle.job.specs.declared.JobRecord.{JobRecord}
 use Rattle.job.specs.declared.Plan.{Plan}
-use Rattle.job.specs.Record.{isAccepted, stored}
+use Rattle.job.specs.Record.{stored}
 use Rattle.job.specs.Copy.{Pixels, refinedCopy}
 use Rattle.job.specs.Open.{Opening, openOf, firstRecord}
 use Rattle.job.specs.Take.{Taken}

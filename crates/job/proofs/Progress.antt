@@ -14,7 +14,7 @@ use lib.Dec.{ltb}
 use lib.Ieee.{nan}
 use borrow.Author.Tests.{ltb-true, ltb-false}
 use Rattle.base.specs.Grid.{area}
-use Rattle.base.specs.Refusal.{accepted}
+use Rattle.base.specs.Refusal.{accepted, isAccepted}
 use Rattle.base.proofs.GridLaws.{length-crop}
 use Rattle.tiling.specs.declared.Tiling.{Tiling}
 use Rattle.tiling.specs.Tiling.{image, tiles, tile, region, inPhase}
@@ -27,7 +27,7 @@ use Rattle.tile.specs.Tile.{State}
 use Rattle.walk.specs.Walk.{Walk}
 use Rattle.walk.proofs.Ends.{Going, walk-stage}
 use Rattle.job.specs.declared.Plan.{Plan}
-use Rattle.job.specs.Record.{isAccepted, pixelsOf, isBack}
+use Rattle.job.specs.Record.{pixelsOf, isBack}
 use Rattle.job.specs.Copy.{pixels, copyOf, refinedCopy}
 use Rattle.job.specs.Open.{Opening, openOf}
 use Rattle.job.specs.Work.{workOf}

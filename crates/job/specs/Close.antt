@@ -9,12 +9,12 @@ use lib.Ieee.{Float, nan}
 use Rattle.base.specs.declared.Status.{Status}
 use Rattle.base.specs.F64.{_+f_}
 use Rattle.base.specs.Loop.{upTo, table}
-use Rattle.base.specs.Refusal.{Test, test, judge}
+use Rattle.base.specs.Refusal.{Test, test, judge, isAccepted}
 use Rattle.tiling.specs.declared.Tiling.{Tiling}
 use Rattle.tiling.specs.Tiling.{tiles, inPhase}
 use Rattle.input.specs.Input.{lengthTest}
 use Rattle.job.specs.declared.JobRecord.{JobRecord}
-use Rattle.job.specs.Record.{isAccepted, recordTests, isBack}
+use Rattle.job.specs.Record.{recordTests, isBack}
 
 -- the answer, the record, and every slice that it writes
 pub record Closed : Type 0 where

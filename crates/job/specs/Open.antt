@@ -7,12 +7,11 @@ use lib.ListN.{length, replicate}
 use lib.Ieee.{Float}
 use Rattle.base.specs.declared.Status.{Status}
 use Rattle.base.specs.F64.{f0}
-use Rattle.base.specs.Refusal.{Test, judge}
+use Rattle.base.specs.Refusal.{Test, judge, isAccepted}
 use Rattle.tiling.specs.Tiling.{tiles}
 use Rattle.input.specs.Input.{Input, inkCount, openTests}
 use Rattle.prepare.specs.Prepare.{tilingOf, inksOf, cppOf, cpeOf, errorOf}
 use Rattle.job.specs.declared.JobRecord.{JobRecord}
-use Rattle.job.specs.Record.{isAccepted}
 
 -- what an open is given: the input, the passes allowed, and the buffers lent to the job
 pub record Opening : Type 0 where

@@ -7,13 +7,13 @@ use lib.ListN.{length, set}
 use lib.Ieee.{Float}
 use Rattle.base.specs.declared.Status.{Status}
 use Rattle.base.specs.Grid.{area}
-use Rattle.base.specs.Refusal.{Test, test, judge}
+use Rattle.base.specs.Refusal.{Test, test, judge, isAccepted}
 use Rattle.tiling.specs.Tiling.{tiles, tile, region}
 use Rattle.input.specs.Input.{lengthTest}
 use Rattle.moves.specs.declared.Progress.{Progress}
 use Rattle.tile.specs.Tile.{State}
 use Rattle.job.specs.declared.JobRecord.{JobRecord}
-use Rattle.job.specs.Record.{isAccepted, pixelsOf, recordTests, isDue, isOut}
+use Rattle.job.specs.Record.{pixelsOf, recordTests, isDue, isOut}
 use Rattle.job.specs.Copy.{Pixels, pixels, writtenBack}
 use Rattle.job.specs.Work.{copyTest}
 

@@ -7,16 +7,11 @@ use mathlib.Core.List.{List, [], _∷_}
 use lib.Dec.{leb, ltb, eqb}
 use lib.ListN.{getD, take}
 use lib.Ieee.{Float}
-use Rattle.base.specs.declared.Status.{Status}
 use Rattle.base.specs.Refusal.{Test, test}
 use Rattle.tiling.specs.Tiling.{tiles, inPhase}
 use Rattle.search.specs.Shared.{Shared, shared}
 use Rattle.input.specs.Input.{within, sizeFits}
 use Rattle.job.specs.declared.JobRecord.{JobRecord}
-
--- 'A call that returns 0, 0 is accepted'
-unfoldable pub isAccepted : Status → Bool
-isAccepted s = eqb (s .number) 0 && eqb (s .place) 0
 
 -- 'n = w·h'
 unfoldable pub pixelsOf : JobRecord → ℕ

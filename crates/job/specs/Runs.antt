@@ -6,10 +6,10 @@ use mathlib.Core.Bool.{Bool, true, false, cond}
 use mathlib.Core.List.{List, [], _∷_}
 use lib.Dec.{eqb}
 use lib.Ieee.{Float}
+use Rattle.base.specs.Refusal.{isAccepted}
 use Rattle.base.specs.declared.Status.{Status}
 use Rattle.tile.specs.Tile.{State}
 use Rattle.job.specs.declared.JobRecord.{JobRecord}
-use Rattle.job.specs.Record.{isAccepted}
 use Rattle.job.specs.Copy.{Pixels, pixels}
 use Rattle.job.specs.Open.{Opening, openOf}
 use Rattle.job.specs.Take.{takeOf}

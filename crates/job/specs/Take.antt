@@ -6,11 +6,11 @@ use lib.Dec.{eqb}
 use lib.ListN.{length, set}
 use Rattle.base.specs.declared.Status.{Status}
 use Rattle.base.specs.Grid.{area}
-use Rattle.base.specs.Refusal.{Test, test, judge}
+use Rattle.base.specs.Refusal.{Test, test, judge, isAccepted}
 use Rattle.tiling.specs.Tiling.{tiles, region}
 use Rattle.input.specs.Input.{lengthTest}
 use Rattle.job.specs.declared.JobRecord.{JobRecord}
-use Rattle.job.specs.Record.{isAccepted, pixelsOf, recordTests, isDue, isWaiting}
+use Rattle.job.specs.Record.{pixelsOf, recordTests, isDue, isWaiting}
 use Rattle.job.specs.Copy.{Pixels, copyOf}
 
 -- the answer, the record, and every slice that it writes

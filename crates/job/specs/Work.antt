@@ -7,12 +7,12 @@ use lib.ListN.{length}
 use lib.Ieee.{Float}
 use Rattle.base.specs.declared.Status.{Status}
 use Rattle.base.specs.Grid.{area}
-use Rattle.base.specs.Refusal.{Test, test, judge}
+use Rattle.base.specs.Refusal.{Test, test, judge, isAccepted}
 use Rattle.tiling.specs.Tiling.{tiles, region}
 use Rattle.input.specs.Input.{maskFits, lengthTest, firstUnnamed}
 use Rattle.tile.specs.Tile.{State, state, noProgress}
 use Rattle.job.specs.declared.JobRecord.{JobRecord}
-use Rattle.job.specs.Record.{isAccepted, pixelsOf, jobShared, recordTests}
+use Rattle.job.specs.Record.{pixelsOf, jobShared, recordTests}
 use Rattle.job.specs.Copy.{Pixels, refinedCopy}
 
 -- the answer, the copy, and the count and delta
