@@ -37,7 +37,7 @@ pub is-accepted : isAccepted accepted ≡ true
 unfolding isAccepted
 is-accepted = refl
 
-not-accepted : (s : Status) → s ≢ accepted → isAccepted s ≡ false
+pub not-accepted : (s : Status) → s ≢ accepted → isAccepted s ≡ false
 not-accepted s n = go (isAccepted s) refl
   where
     go : (b : Bool) → isAccepted s ≡ b → b ≡ false
@@ -53,6 +53,8 @@ pub record Answers {A : Type 0} (status : A → Status) (ts : List Test) (new ol
   pub passed : (s : Status) → s ≡ judge ts → s .number ≡ 0 → Passes ts
   pub made : (s : Status) → s ≡ judge ts → s .number ≡ 0 → new s ≡ given
   pub kept : (s : Status) → s ≡ judge ts → (s .number ≡ 0 → ⊥) → old s ≡ given
+  -- the number 0 comes with the place 0 only
+  pub zero : status given .number ≡ 0 → status given ≡ accepted
 
 answers : {A : Type 0} (status : A → Status) (ts : List Test) (new old : Status → A) → Numbered ts → ((s : Status) → status (new s) ≡ s) → ((s : Status) → status (old s) ≡ s) →
     Answers status ts new old (cond (isAccepted (judge ts)) (new (judge ts)) (old (judge ts)))
@@ -63,6 +65,7 @@ answers {A} status ts new old numbered sy sn = record {
   passed = λ s e z. passes-of-zero ts numbered (number s e ∙ z);
   made = λ s e z. rw (e, judge-zero ts numbered (number s e ∙ z), is-accepted);
   kept = λ s e f. let other = not-accepted (judge ts) (λ q. f (ap (λ (u : Status). u .number) (e ∙ q))) in rw (e, other);
+  zero = λ z. is ∙ judge-zero ts numbered (ap (λ (u : Status). u .number) (sym is) ∙ z);
 }
   where
     number : (s : Status) → s ≡ judge ts → judge ts .number ≡ s .number

@@ -4,7 +4,7 @@ use mathlib.Core.Path.{_≡_, refl}
 use mathlib.Core.Bool.{true, false}
 use mathlib.Core.List.{List, [], _∷_, _++_}
 use lib.ListN.{replicate}
-use lib.Ieee.{Float, add, sub, mul, div, neg, lt, ofBits, ofInt}
+use lib.Ieee.{Float, add, sub, mul, div, neg, lt, ofBits, toBits, ofInt, isNan, nanBits}
 use Rattle.base.specs.F64.{f0, f1, f2, wholef}
 use Rattle.base.specs.Grid.{width, height, area, inside, place, columnAt, rowAt, valueAt, cell, put, crop, paste}
 use Rattle.base.specs.Loop.{upTo, fromTo, table}
@@ -22,13 +22,15 @@ use Rattle.input.specs.Input.{pixelCount, inkCount, firstUnnamed, imageTests, i
 use Rattle.error.specs.Error.{channelError, initialError}
 use Rattle.prepare.specs.Prepare.{tilingOf, errorOf}
 use Rattle.job.specs.Record.{pixelsOf, jobShared, radiusFits, recordTests, isDue, isWaiting, isOut, isBack}
+use Rattle.job.specs.Words.{runTest, wordsTests, decode, wordsWith, encode, wordOver, rewritten}
 use Rattle.job.specs.Copy.{pixels, copyOf, refinedCopy, writtenBack}
 use Rattle.job.specs.Open.{Opening, openTestsOf, firstRecord, openOf}
 use Rattle.job.specs.Take.{takeTests, takeOf}
 use Rattle.job.specs.Work.{Worked, copyTest, workTests, workOf}
 use Rattle.job.specs.PutBack.{countTest, putBackTests, withProgress, putBackOf}
 use Rattle.job.specs.Close.{firstOf, isMissing, closeTests, withDeltas, released, nextRecord, nextWith, closeOf}
-use Rattle.job.specs.Runs.{take, putBack, close, Job, start, answer, changed, after}
+use Rattle.job.specs.Boundary.{openRun, onRun, takeRun, workRun, wordsAfter, putBackOver, putBackRun, closedOver, closeRun}
+use Rattle.job.specs.Runs.{own, take, putBack, close, Job, rec, start, ran, after}
 
 -- an image of 1 x 0 pixels and one ink, seen at 127 ppi from 40 cm
 flat : ℕ → List ℕ → Opening
@@ -57,11 +59,11 @@ no-passes = (refl, refl)
 
 -- the four closes of a pass
 closed : Job → Job
-closed J = after J (close (J .counts) (J .states) (J .deltas))
+closed J = after J (close own own own)
 
-no-rows : let J = closed (closed (closed (closed (start (flat 2 (7 ∷ 7 ∷ [])))))) in
-    (J .rec .done ≡ 1) × (J .rec .phase ≡ 0) × (J .rec .finished ≡ true) × (J .counts ≡ 0 ∷ 7 ∷ []) × (J .rec .error ≡ f0)
-unfolding flat closed start after changed answer closeOf closeTests recordTests radiusFits pixelsOf firstOf isMissing nextRecord nextWith withDeltas released openOf openTestsOf firstRecord isAccepted judge openTests openRunTests runTests inputTests imageTests inkTests eyeTests firstUnnamed pixelCount inkCount tilingOf kernelRadius blurRadius ceil sigmaPx toDegrees isFinitePositive tiles rows columns side margin errorOf initialError channelError upTo table add mul div lt ofBits ofInt
+no-rows : let J = closed (closed (closed (closed (start (replicate 12 5) (flat 2 (7 ∷ 7 ∷ [])))))) in
+    (rec J .done ≡ 1) × (rec J .phase ≡ 0) × (rec J .finished ≡ true) × (J .counts ≡ 0 ∷ 7 ∷ []) × (rec J .error ≡ f0)
+unfolding flat closed start ran openRun onRun closeRun closedOver wordsAfter wordsTests runTest decode encode rewritten wordsWith wordOver closeOf closeTests recordTests radiusFits pixelsOf firstOf isMissing nextRecord nextWith withDeltas released openOf openTestsOf firstRecord isAccepted judge openTests openRunTests runTests inputTests imageTests inkTests eyeTests firstUnnamed pixelCount inkCount tilingOf kernelRadius blurRadius ceil sigmaPx toDegrees isFinitePositive tiles rows columns side margin errorOf initialError channelError upTo table add mul div lt ofBits ofInt toBits isNan nanBits
 no-rows = (refl, refl, refl, refl, refl)
 
 -- ---- a job on two pixels: hand kernel H (1.0 at the centre, else 0), ink values (0, 0, 0) and (1, 0, 0), indices 1 0, targets 0 1
@@ -74,14 +76,14 @@ twoInks = f0 ∷ f0 ∷ f0 ∷ f1 ∷ f0 ∷ f0 ∷ []
 
 two : Job
 two = record {
-  rec = record {
+  words = encode (record {
     plan = record { tiling = record { width = 2; height = 1; lum = 2; chroma = 2 }; inks = 2; allowed = 3; initial = f2 };
     done = 0;
     phase = 0;
     accepted = 0;
     error = f2;
     finished = false;
-  };
+  });
   image = pixels (f1 ∷ f0 ∷ f0 ∷ neg f1 ∷ f0 ∷ f0 ∷ []) (1 ∷ 0 ∷ []);
   counts = 7 ∷ 7 ∷ 7 ∷ [];
   states = 0 ∷ [];
@@ -91,16 +93,16 @@ two = record {
 }
 
 tookOne : Job
-tookOne = after two (take 0 (two .image) (two .states) (pixels (replicate 6 f0) (9 ∷ 9 ∷ [])))
+tookOne = after two (take 0 own own own (pixels (replicate 6 f0) (9 ∷ 9 ∷ [])))
 
 workedOne : Worked
-workedOne = workOf (tookOne .rec) 0 [] handKernels (tookOne .last 0) twoInks
+workedOne = workRun (tookOne .words) 0 [] handKernels (tookOne .last 0) twoInks
 
 backOne : Job
-backOne = after tookOne (putBack 0 (tookOne .image) (tookOne .states) (tookOne .deltas) (workedOne .made))
+backOne = after tookOne (putBack 0 own own own own (workedOne .made))
 
 -- 'H, indices 1 0, targets 0 1: swap, −2', shared and closed
 one-swap : let J = closed (closed (closed (closed backOne))) in
-    (workedOne .made .progress ≡ record { accepted = 1; delta = neg f2 }) × (J .image .indices ≡ 0 ∷ 1 ∷ []) × (J .counts ≡ 1 ∷ 7 ∷ 7 ∷ []) × (J .rec .done ≡ 1) × (J .rec .error ≡ f0) × (J .rec .finished ≡ false)
-unfolding two tookOne workedOne backOne handKernels twoInks closed after changed answer takeOf takeTests copyOf isDue isWaiting workOf workTests copyTest jobShared refinedCopy putBackOf putBackTests countTest withProgress writtenBack isOut isBack closeOf closeTests recordTests radiusFits pixelsOf firstOf isMissing nextRecord nextWith withDeltas released isAccepted judge firstUnnamed image tile region tileX tileY inPhase tiles rows columns side margin crop paste cell put place columnAt rowAt valueAt inside area width height refineTile refineRow visitOf applied evaluateOf swaps trySwap partnerOf toggles tryToggle centres centreOf gaps besideOf toggleCost swapCost kernelAt pinnedAt movedIndices movedCpe addKernels sweepOf sweepRow sweepPixel addAt grow fromTo upTo table add sub mul div neg lt ofBits
+    (workedOne .made .progress ≡ record { accepted = 1; delta = neg f2 }) × (J .image .indices ≡ 0 ∷ 1 ∷ []) × (J .counts ≡ 1 ∷ 7 ∷ 7 ∷ []) × (rec J .done ≡ 1) × (rec J .error ≡ f0) × (rec J .finished ≡ false)
+unfolding two tookOne workedOne backOne handKernels twoInks closed ran takeRun workRun putBackRun putBackOver closeRun closedOver onRun wordsAfter wordsTests runTest decode encode rewritten wordsWith wordOver toBits isNan nanBits takeOf takeTests copyOf isDue isWaiting workOf workTests copyTest jobShared refinedCopy putBackOf putBackTests countTest withProgress writtenBack isOut isBack closeOf closeTests recordTests radiusFits pixelsOf firstOf isMissing nextRecord nextWith withDeltas released isAccepted judge firstUnnamed image tile region tileX tileY inPhase tiles rows columns side margin crop paste cell put place columnAt rowAt valueAt inside area width height refineTile refineRow visitOf applied evaluateOf swaps trySwap partnerOf toggles tryToggle centres centreOf gaps besideOf toggleCost swapCost kernelAt pinnedAt movedIndices movedCpe addKernels sweepOf sweepRow sweepPixel addAt grow fromTo upTo table add sub mul div neg lt ofBits
 one-swap = (refl, refl, refl, refl, refl, refl)

@@ -4,8 +4,10 @@ pub mod Answers
 pub mod Opened
 pub mod Merge
 pub mod Phase
-pub mod Demand3
 pub mod WordsLaws
+pub mod Fine
+pub mod OnRun
+pub mod Demand3
 pub mod Sums
 pub mod Counts
 pub mod Companions

@@ -1,9 +1,11 @@
 -- What an accepted open leaves: a valid input, slices that the walk can start from, and a job at its start. Assumes nothing.
-use mathlib.Core.Path.{_≡_}
-use mathlib.Core.List.{[], _∷_}
+use Prim.Native.Nat.{ℕ}
+use mathlib.Core.Path.{_≡_, refl, sym, ap, _∙_}
+use mathlib.Core.Bool.{Bool, true, false, cond, true≢false}
+use mathlib.Core.List.{List, [], _∷_}
 use lib.ListN.{length, replicate}
 use Rattle.base.specs.F64.{f0}
-use Rattle.base.specs.Refusal.{accepted}
+use Rattle.base.specs.Refusal.{judge, accepted, isAccepted}
 use Rattle.base.proofs.RefusalLaws.{accepted-of}
 use Rattle.eye.specs.Eye.{KernelRadius}
 use Rattle.tiling.specs.Tiling.{image, tiles}
@@ -14,9 +16,11 @@ use Rattle.input.proofs.Validity.{valid-iff, open-valid-iff, valid-radii}
 use Rattle.prepare.specs.Prepare.{tilingOf, inksOf, cppOf, cpeOf, sharedOf}
 use Rattle.prepare.proofs.Laws.{start-ready}
 use Rattle.job.specs.Copy.{pixels}
-use Rattle.job.specs.Open.{Opening, openTestsOf, firstRecord, openOf}
+use Rattle.job.specs.Words.{runTest, encode}
+use Rattle.job.specs.Open.{Opening, Opened, openTestsOf, firstRecord, openOf}
+use Rattle.job.specs.Boundary.{OpenedRun, openedRun, openRun}
 use Rattle.job.specs.Runs.{start}
-use Rattle.job.proofs.Answers.{open-answers}
+use Rattle.job.proofs.Answers.{is-accepted, open-answers}
 
 module _ (O : Opening) (ok : openOf O .status ≡ accepted) where
   abbrev I : Input
@@ -46,15 +50,39 @@ module _ (O : Opening) (ok : openOf O .status ≡ accepted) where
   unfolding sharedOf
   ready = start-ready I (valid-iff I .1 (valid .refine .valid)) (O .cpp) (valid .refine .cpp-length)
 
-  -- and so can the job
-  pub starts : start O ≡ record {
-    rec = firstRecord O;
-    image = pixels (cpeOf I (O .cpp)) (I .indices);
+-- ---- as a C host opens it
+
+module _ (words : List ℕ) (O : Opening) (ok : openRun words O .status ≡ accepted) where
+  abbrev tried : Opened
+  tried = openOf O
+
+  passed : isAccepted (judge (runTest words ∷ [])) ≡ true
+  unfolding openRun
+  passed = go (isAccepted (judge (runTest words ∷ []))) refl ok
+    where
+      go : (b : Bool) → isAccepted (judge (runTest words ∷ [])) ≡ b →
+          cond {A = OpenedRun} b (openedRun (tried .status) (cond (isAccepted (tried .status)) (encode (tried .rec)) words) (tried .cpe) (tried .cpp) (tried .states) (tried .deltas) (tried .inks)) (openedRun (judge (runTest words ∷ [])) words (O .cpe) (O .cpp) (O .states) (O .deltas) (O .inks)) .status ≡ accepted → b ≡ true
+      go true e a = refl
+      go false e a = absurd (true≢false (sym is-accepted ∙ ap isAccepted (sym a) ∙ e))
+
+  -- the open on the record is accepted too
+  pub opens : openOf O .status ≡ accepted
+  unfolding openRun
+  opens = rw passed at ok
+
+  pub run-leaves : openRun words O ≡ openedRun accepted (encode (firstRecord O)) (cpeOf (O .input) (O .cpp)) (cppOf (O .input) (O .cpp)) (replicate (tiles (tilingOf (O .input))) 0) (replicate (tiles (tilingOf (O .input))) f0) (inksOf (O .input))
+  unfolding openRun
+  run-leaves = rw (passed, leaves O opens, is-accepted)
+
+  -- a job at its start
+  pub starts : start words O ≡ record {
+    words = encode (firstRecord O);
+    image = pixels (cpeOf (O .input) (O .cpp)) (O .input .indices);
     counts = O .counts;
-    states = replicate (tiles (tilingOf I)) 0;
-    deltas = replicate (tiles (tilingOf I)) f0;
+    states = replicate (tiles (tilingOf (O .input))) 0;
+    deltas = replicate (tiles (tilingOf (O .input))) f0;
     last = λ t. pixels [] [];
-    seen = firstRecord O ∷ [];
+    seen = encode (firstRecord O) ∷ [];
   }
   unfolding start
-  starts = rw leaves
+  starts = rw run-leaves

@@ -30,11 +30,10 @@ use Rattle.job.specs.Work.{Worked, workOf}
 use Rattle.job.specs.PutBack.{withProgress, putBackOf}
 use Rattle.job.specs.Close.{withDeltas, released, nextRecord, nextWith, closeOf}
 use Rattle.job.specs.Valid.{ValidTile, ValidTake, ValidPutBack, ValidClose}
-use Rattle.job.specs.Runs.{Job, take as takeCall, putBack, close, changed, refused}
 use Rattle.job.specs.Claim.{Same}
 use Rattle.job.proofs.Bools.{both}
 use Rattle.job.proofs.Merge.{Half, WholeImage, brought, home, merge, merge-cong, merge-keeps, merge-whole, merge-copy, merge-insert, joinDeltas, joinDeltas-cong, pixelsAt, pixelsNow, halfNow, walk-all, walk-reached}
-use Rattle.job.proofs.Answers.{take-answers, work-answers, putBack-answers, close-answers}
+use Rattle.job.proofs.Answers.{work-answers}
 
 -- what holds of both sides of a choice
 either : {A B : Type 0} {x y : A} {z : B} (f : A → B) (b : Bool) → f x ≡ z → f y ≡ z → f (cond b x y) ≡ z
@@ -66,9 +65,17 @@ home-away T p states t h = rw (le-ltb 1 (getD states t 0) h) (go (inPhase T p t)
     go true = refl
     go false = refl
 
--- ---- the job after an accepted call that was given its own buffers
+-- ---- the job with its run read, and after an accepted call that was lent its own buffers
 
-unfoldable pub tookTile : Job → ℕ → Job
+pub record Stage : Type 0 where
+  pub rec : JobRecord
+  pub image : Pixels
+  pub counts : List ℕ
+  pub states : List ℕ
+  pub deltas : List Float
+  pub last : ℕ → Pixels
+
+unfoldable pub tookTile : Stage → ℕ → Stage
 tookTile J t = record {
   rec = J .rec;
   image = J .image;
@@ -76,10 +83,9 @@ tookTile J t = record {
   states = set (J .states) t 1;
   deltas = J .deltas;
   last = λ u. cond (eqb u t) (copyOf (J .rec .plan .tiling) t (J .image)) (J .last u);
-  seen = J .rec ∷ J .seen;
 }
 
-unfoldable pub tileBack : Job → ℕ → State → Job
+unfoldable pub tileBack : Stage → ℕ → State → Stage
 tileBack J t made = record {
   rec = withProgress (J .rec) (made .progress);
   image = writtenBack (J .rec .plan .tiling) t (J .image) (pixelsAt made);
@@ -87,10 +93,9 @@ tileBack J t made = record {
   states = set (J .states) t 2;
   deltas = set (J .deltas) t (made .progress .delta);
   last = J .last;
-  seen = withProgress (J .rec) (made .progress) ∷ J .seen;
 }
 
-unfoldable pub phaseClosed : Job → Job
+unfoldable pub phaseClosed : Stage → Stage
 phaseClosed J = record {
   rec = nextRecord (J .rec) (J .deltas);
   image = J .image;
@@ -98,25 +103,11 @@ phaseClosed J = record {
   states = released (J .rec .plan .tiling) (J .rec .phase) (J .states);
   deltas = J .deltas;
   last = J .last;
-  seen = nextRecord (J .rec) (J .deltas) ∷ J .seen;
 }
-
-pub take-changed : (J : Job) (t : ℕ) (copy : Pixels) → takeOf (J .rec) t (J .image) (J .states) copy .status ≡ accepted → changed J (takeCall t (J .image) (J .states) copy) ≡ tookTile J t
-unfolding changed tookTile
-take-changed J t copy ok = rw (take-answers (J .rec) t (J .image) (J .states) copy .leaves ok)
-
-pub putBack-changed : (J : Job) (t : ℕ) (made : State) → putBackOf (J .rec) t (J .image) (J .states) (J .deltas) made .status ≡ accepted →
-    changed J (putBack t (J .image) (J .states) (J .deltas) made) ≡ tileBack J t made
-unfolding changed tileBack
-putBack-changed J t made ok = rw (putBack-answers (J .rec) t (J .image) (J .states) (J .deltas) made .leaves ok)
-
-pub close-changed : (J : Job) → closeOf (J .rec) (J .counts) (J .states) (J .deltas) .status ≡ accepted → changed J (close (J .counts) (J .states) (J .deltas)) ≡ phaseClosed J
-unfolding changed phaseClosed
-close-changed J ok = rw (close-answers (J .rec) (J .counts) (J .states) (J .deltas) .leaves ok)
 
 -- ---- the invariant
 
-abbrev pub halfOf : Job → Half
+abbrev pub halfOf : Stage → Half
 halfOf J = record { image = J .image; accepted = J .rec .accepted }
 
 module _ (plan : Plan) (pinned : List ℕ) (inks cpp : List Float) where
@@ -137,7 +128,7 @@ module _ (plan : Plan) (pinned : List ℕ) (inks cpp : List Float) where
     pub counts-length : length stores ≡ plan .allowed
 
   -- run two in the middle of a phase that run one starts at w
-  pub record Inv (J : Job) (w : Walk) : Type 0 where
+  pub record Inv (J : Stage) (w : Walk) : Type 0 where
     pub recorded : Recorded (J .rec) (J .counts) w
     pub whole : WholeImage T (pixelsNow (w .now))
     pub states-length : length (J .states) ≡ tiles T
@@ -146,14 +137,12 @@ module _ (plan : Plan) (pinned : List ℕ) (inks cpp : List Float) where
     pub out : (t : ℕ) → t < tiles T → inPhase T (w .phase) t ≡ true → getD (J .states) t 0 ≡ 1 → J .last t ≡ copyOf T t (pixelsNow (w .now))
     pub delta : (t : ℕ) → t < tiles T → isHome T (w .phase) (J .states) t ≡ true → getD (J .deltas) t nan ≡ brought S (pixelsNow (w .now)) t .progress .delta
     pub others : (t : ℕ) → t < tiles T → inPhase T (w .phase) t ≡ false → getD (J .states) t 0 ≡ 0
-    pub seen : (r : JobRecord) → List·Memᴰ r (J .seen) → r .plan ≡ plan
-    pub present : List·Memᴰ (J .rec) (J .seen)
 
   -- at the start of a phase
-  pub fresh : (J : Job) (w : Walk) → Same J w → J .rec .plan ≡ plan → J .rec .phase ≡ w .phase → WholeImage T (pixelsNow (w .now)) → length (J .counts) ≡ plan .allowed →
-      length (J .states) ≡ tiles T → length (J .deltas) ≡ tiles T → ((t : ℕ) → t < tiles T → getD (J .states) t 0 ≡ 0) → ((r : JobRecord) → List·Memᴰ r (J .seen) → r .plan ≡ plan) → List·Memᴰ (J .rec) (J .seen) → Inv J w
-  fresh J w s planned phase whole counts states deltas zeros seen present = record {
-    recorded = record { planned = planned; error = s .error; phase = phase; ended = s .ended; counts = s .counts; done = s .done; counts-length = counts };
+  pub fresh : (J : Stage) (w : Walk) → Same (J .rec) (J .image) (J .counts) w → J .rec .plan ≡ plan → J .rec .phase ≡ w .phase → WholeImage T (pixelsNow (w .now)) → length (J .counts) ≡ plan .allowed →
+      length (J .states) ≡ tiles T → length (J .deltas) ≡ tiles T → ((t : ℕ) → t < tiles T → getD (J .states) t 0 ≡ 0) → Inv J w
+  fresh J w s planned phase whole counts states deltas zeros = record {
+    recorded = record { planned = planned; error = s .error; phase = phase; ended = s .ended; counts = s .stores; done = s .done; counts-length = counts };
     whole = whole;
     states-length = states;
     deltas-length = deltas;
@@ -161,8 +150,6 @@ module _ (plan : Plan) (pinned : List ℕ) (inks cpp : List Float) where
     out = λ t h i e. let z : _≡_ {A = ℕ} 0 1 = sym (zeros t h) ∙ e in absurd (omega (arith, z));
     delta = λ t h d. absurd (none t h d);
     others = λ t h i. zeros t h;
-    seen = seen;
-    present = present;
   }
     where
       none : (t : ℕ) → t < tiles T → isHome T (w .phase) (J .states) t ≡ true → ⊥
@@ -171,7 +158,7 @@ module _ (plan : Plan) (pinned : List ℕ) (inks cpp : List Float) where
       same-half : halfOf J ≡ halfNow (w .now)
       same-half = ap₂ {C = Half} (λ q k. record { image = q; accepted = k }) (ap₂ pixels (s .cpe) (s .indices)) (s .accepted)
 
-  module _ (J : Job) (w : Walk) (I : Inv J w) where
+  module _ (J : Stage) (w : Walk) (I : Inv J w) where
     abbrev start : Pixels
     start = pixelsNow (w .now)
 
@@ -221,31 +208,6 @@ module _ (plan : Plan) (pinned : List ℕ) (inks cpp : List Float) where
           go (yes q) = absurd (true≢false (sym here ∙ ap (inPhase T (w .phase)) (sym q) ∙ i))
           go (no q) = other-byte u q ∙ I .others u h i
 
-    -- a returned record has the plan
-    known : (r : JobRecord) → r .plan ≡ J .rec .plan → (q : JobRecord) → List·Memᴰ q (r ∷ J .seen) → q .plan ≡ plan
-    known r e q m = go (List·Memᴰ·cases-cons m)
-      where
-        go : (q ≡ r) ⊎ List·Memᴰ q (J .seen) → q .plan ≡ plan
-        go (inl z) = ap (λ (x : JobRecord). x .plan) z ∙ e ∙ I .recorded .planned
-        go (inr z) = I .seen q z
-
-    -- ---- a refused call: the record is seen once more
-
-    pub refused-keeps : Inv (refused J (J .rec)) w
-    unfolding refused
-    refused-keeps = record {
-      recorded = I .recorded;
-      whole = I .whole;
-      states-length = I .states-length;
-      deltas-length = I .deltas-length;
-      half = I .half;
-      out = I .out;
-      delta = I .delta;
-      others = I .others;
-      seen = known (J .rec) refl;
-      present = List·Memᴰ·head refl;
-    }
-
     -- ---- take
 
     module _ (t : ℕ) (copy : Pixels) (v : ValidTake (J .rec) t (J .image) (J .states) copy) where
@@ -260,8 +222,6 @@ module _ (plan : Plan) (pinned : List ℕ) (inks cpp : List Float) where
         out = λ u h i e. outs u h i e (ℕ-discrete u t);
         delta = λ u h d. I .delta u h (sym (homes u (ℕ-discrete u t)) ∙ d);
         others = others-kept t 1 (g .here);
-        seen = known (J .rec) refl;
-        present = List·Memᴰ·head refl;
       }
         where
           g : Given t
@@ -316,8 +276,6 @@ module _ (plan : Plan) (pinned : List ℕ) (inks cpp : List Float) where
           out = λ u h i e. outs u h i e (ℕ-discrete u t);
           delta = λ u h d. adds u h d (ℕ-discrete u t);
           others = others-kept t 2 (g .here);
-          seen = known (withProgress (J .rec) (made .progress)) refl;
-          present = List·Memᴰ·head refl;
         }
           where
             g : Given t
@@ -381,7 +339,7 @@ module _ (plan : Plan) (pinned : List ℕ) (inks cpp : List Float) where
           let room : J .rec .done < length (J .counts) = omega (arith, v .counts-length, v .valid .left (v .unfinished)) in
           rw add-one (take-suc-set (J .counts) (J .rec .done) (J .rec .accepted) room ∙ ap (λ (l : List ℕ). l ++ (J .rec .accepted ∷ [])) (I .recorded .counts))
 
-      pub close-same : Same (phaseClosed J) (walkPhase S (plan .allowed) w)
+      pub close-same : Same (phaseClosed J .rec) (phaseClosed J .image) (phaseClosed J .counts) (walkPhase S (plan .allowed) w)
       unfolding phaseClosed nextRecord nextWith walkPhase stored
       close-same = go (eqb (w .phase) 3) refl
         where
@@ -397,13 +355,13 @@ module _ (plan : Plan) (pinned : List ℕ) (inks cpp : List Float) where
           allowed-is : J .rec .plan .allowed ≡ plan .allowed
           allowed-is = ap (λ (p : Plan). p .allowed) (I .recorded .planned)
 
-          go : (b : Bool) → eqb (w .phase) 3 ≡ b → Same (phaseClosed J) (walkPhase S (plan .allowed) w)
+          go : (b : Bool) → eqb (w .phase) 3 ≡ b → Same (phaseClosed J .rec) (phaseClosed J .image) (phaseClosed J .counts) (walkPhase S (plan .allowed) w)
           go true e =
               let f : eqb (J .rec .phase) 3 ≡ true = rw (I .recorded .phase) e in
               record {
                 indices = rw (going, e) indices-same;
                 cpe = rw (going, e) cpe-same;
-                counts = rw (going, e, f, ← accepted-same) more-stored;
+                stores = rw (going, e, f, ← accepted-same) more-stored;
                 done = rw (going, e, f) (more _);
                 accepted = rw (going, e, f);
                 error = rw (going, e, f) (sym end-error);
@@ -414,7 +372,7 @@ module _ (plan : Plan) (pinned : List ℕ) (inks cpp : List Float) where
               record {
                 indices = rw (going, e) indices-same;
                 cpe = rw (going, e) cpe-same;
-                counts = rw (going, e, f) (I .recorded .counts);
+                stores = rw (going, e, f) (I .recorded .counts);
                 done = rw (going, e, f) (I .recorded .done);
                 accepted = rw (going, e, f) accepted-same;
                 error = rw (going, e, f) (sym end-error);
@@ -450,4 +408,4 @@ module _ (plan : Plan) (pinned : List ℕ) (inks cpp : List Float) where
       close-keeps =
           fresh (phaseClosed J) (walkPhase S (plan .allowed) w) close-same (next-plan ∙ I .recorded .planned) next-phase next-whole
           (either length (eqb (J .rec .phase) 3) (length-set (J .counts) (J .rec .done) (J .rec .accepted) ∙ I .recorded .counts-length) (I .recorded .counts-length))
-          (length-table _ _ ∙ tiles-are) (I .deltas-length) next-waiting (known (nextRecord (J .rec) (J .deltas)) next-plan) (List·Memᴰ·head refl)
+          (length-table _ _ ∙ tiles-are) (I .deltas-length) next-waiting

@@ -29,45 +29,48 @@ use Rattle.walk.proofs.Ends.{Going, walk-stage}
 use Rattle.job.specs.declared.Plan.{Plan}
 use Rattle.job.specs.Record.{pixelsOf, isBack}
 use Rattle.job.specs.Copy.{pixels, copyOf, refinedCopy}
-use Rattle.job.specs.Open.{Opening, openOf}
+use Rattle.job.specs.Open.{Opening}
+use Rattle.job.specs.Boundary.{openRun, workRun}
 use Rattle.job.specs.Work.{workOf}
 use Rattle.job.specs.PutBack.{withProgress}
-use Rattle.job.specs.Close.{isMissing, closeOf}
+use Rattle.job.specs.Close.{isMissing}
 use Rattle.job.specs.Valid.{ValidRecord, ValidTile, ValidTake, ValidWork, ValidPutBack, ValidClose}
-use Rattle.job.specs.Runs.{Call, take as takeCall, putBack, close, Job, answer, after, isClose, closesAfter}
+use Rattle.job.specs.Runs.{Call, Job, rec, answer, after, isClose, closesAfter}
 use Rattle.job.specs.Claim.{Own, WorkMade, Brings, Fair, phases}
-use Rattle.job.specs.Companions.{missing, sumTo, AllAccepted, closesIn, Closing, Progress}
+use Rattle.job.specs.Companions.{missing, sumTo, AllAccepted, closesIn, Closing, Progress, Doubles}
 use Rattle.job.proofs.Merge.{brought, pixelsNow}
-use Rattle.job.proofs.Answers.{is-accepted}
-use Rattle.job.proofs.Opened.{leaves, valid, radii, ready}
-use Rattle.job.proofs.Phase.{tookTile, tileBack, take-changed, putBack-changed, work-made, image-whole}
-use Rattle.job.proofs.Demand3.{planOf, Mid, sharedHere, walked, took, put, after-accepted}
+use Rattle.job.proofs.Answers.{is-accepted, take-answers, work-answers, putBack-answers, close-answers}
+use Rattle.job.proofs.Validity.{take-passes, work-passes, putBack-passes, close-passes}
+use Rattle.job.proofs.Opened.{opens, run-leaves, valid, radii, ready}
+use Rattle.job.proofs.OnRun.{work-on}
+use Rattle.job.proofs.Phase.{Stage, tookTile, tileBack, work-made, image-whole}
+use Rattle.job.proofs.Demand3.{stage, taking, putting, closing, take-status, take-stage, put-status, put-stage, close-status, planOf, sharedHere, InvOf, Mid, doubles-of, walked, took, put}
 use Rattle.job.proofs.Sums.{sum-same, sum-one, sum-term, sum-none, sum-some}
 use Rattle.job.proofs.Counts.{toCome, brought-few}
-use Rattle.job.proofs.Companions.{accept, mid-fits, reached-mid}
+use Rattle.job.proofs.Companions.{mid-fits, reached-mid}
 use Rattle.job.proofs.Copies.{CopyFits, copy-fits, made-fits}
 
 -- ---- calls put in front of others
 
 not-close : (m : ℕ) (J : Job) (c : Call) → isClose c ≡ false → closesAfter m J c ≡ m
 unfolding closesAfter
-not-close m J c e = rw e (go (isAccepted (answer (J .rec) c)))
+not-close m J c e = rw e (go (isAccepted (answer J c)))
   where
     go : (b : Bool) → cond b m m ≡ m
     go true = refl
     go false = refl
 
-before : (O : Opening) (J : Job) (c : Call) (n : ℕ) → answer (J .rec) c ≡ accepted → Own J c → Brings O J c → isClose c ≡ false → Closing O (after J c) n → Closing O J (n + 1)
+before : (words : List ℕ) (O : Opening) (J : Job) (c : Call) (n : ℕ) → answer J c ≡ accepted → Own c → Brings words O J c → isClose c ≡ false → Closing words O (after J c) n → Closing words O J (n + 1)
 unfolding Fair AllAccepted closesIn
-before O J c n e own brings no-close k = record {
+before words O J c n e mine brings no-close k = record {
   calls = c ∷ k .calls;
-  fair = (λ a. (own, brings), k .fair);
+  fair = (λ a. (mine, brings), k .fair);
   accepted = (e, k .accepted);
   closed = rw (not-close 0 J c no-close) (k .closed);
   few = omega (arith, k .few);
 }
 
-at-most : {O : Opening} {J : Job} {a : ℕ} (b : ℕ) → a ≤ b → Closing O J a → Closing O J b
+at-most : {words : List ℕ} {O : Opening} {J : Job} {a : ℕ} (b : ℕ) → a ≤ b → Closing words O J a → Closing words O J b
 at-most b h k = record { calls = k .calls; fair = k .fair; accepted = k .accepted; closed = k .closed; few = omega (arith, h, k .few) }
 
 -- ---- tiles not yet back
@@ -108,7 +111,10 @@ module _ (T : Tiling) (p : ℕ) (states : List ℕ) (t : ℕ) (room : t < length
 
 -- ---- from one state with the invariant to the next
 
-module _ (O : Opening) (ok : openOf O .status ≡ accepted) (m : ℕ) (J : Job) (H : Mid O J (phases O m)) (running : J .rec .finished ≡ false) where
+module _ (words : List ℕ) (O : Opening) (ok : openRun words O .status ≡ accepted) (m : ℕ) (J : Job) (M : Mid O J (phases O m)) (running : rec J .finished ≡ false) where
+  abbrev H : InvOf O (stage J) (phases O m)
+  H = M .inv
+
   abbrev I : Input
   I = O .input
 
@@ -122,17 +128,17 @@ module _ (O : Opening) (ok : openOf O .status ≡ accepted) (m : ℕ) (J : Job) 
   unfolding runOne
   going = ⊎-elim (λ g. g) (λ o. absurd (false≢true (sym running ∙ H .recorded .ended ∙ o .ended))) (walk-stage (sharedOf I (O .cpp)) (O .passes) (cpeOf I (O .cpp)) (I .indices) (errorOf I (O .cpp)) m)
 
-  pixels-of : pixelsOf (J .rec) ≡ T .height * T .width
+  pixels-of : pixelsOf (rec J) ≡ T .height * T .width
   unfolding pixelsOf
   pixels-of = rw (H .recorded .planned)
 
-  valid-record : ValidRecord (J .rec)
+  valid-record : ValidRecord (rec J)
   unfolding tilingOf
   valid-record =
-      let v = valid O ok .refine in
+      let v = valid O (opens words O ok) .refine in
       let i = v .valid in
-      let k = radii O ok in
-      let left : J .rec .done < O .passes = omega (arith, H .recorded .done, going .left) in
+      let k = radii O (opens words O ok) in
+      let left : rec J .done < O .passes = omega (arith, H .recorded .done, going .left) in
       record {
         width-least = rw (H .recorded .planned) (i .width-least);
         width-most = rw (H .recorded .planned) (i .width-most);
@@ -145,16 +151,16 @@ module _ (O : Opening) (ok : openOf O .status ≡ accepted) (m : ℕ) (J : Job) 
         done-most = rw (H .recorded .planned) (omega arith);
         phase-most = omega (arith, H .recorded .phase, going .phase);
         left = λ e. rw (H .recorded .planned) left;
-        accepted-most = omega (arith, pixels-of, mid-fits O m J H);
+        accepted-most = omega (arith, pixels-of, mid-fits O m (stage J) H);
       }
 
   named : Named (w .now .indices) (inkCount I)
-  named = walked O ok m .named
+  named = walked words O ok m .named
 
   module _ (t : ℕ) (low : t < tiles T) (here : inPhase T (w .phase) t ≡ true) where
-    valid-tile : ValidTile (J .rec) t (J .image) (J .states)
+    valid-tile : ValidTile (rec J) t (J .image) (J .states)
     valid-tile =
-        let whole = image-whole (planOf O) (I .pinned) (inksOf I) (cppOf I (O .cpp)) J w H in
+        let whole = image-whole (planOf O) (I .pinned) (inksOf I) (cppOf I (O .cpp)) (stage J) w H in
         record {
           valid = valid-record;
           unfinished = running;
@@ -170,10 +176,7 @@ module _ (O : Opening) (ok : openOf O .status ≡ accepted) (m : ℕ) (J : Job) 
 
     -- waiting: it can be taken
     module _ (waiting : getD (J .states) t 0 ≡ 0) where
-      abbrev taking : Call
-      taking = takeCall t (J .image) (J .states) (copyOf T t (J .image))
-
-      take-valid : ValidTake (J .rec) t (J .image) (J .states) (copyOf T t (J .image))
+      take-valid : ValidTake (rec J) t (J .image) (J .states) (copyOf T t (J .image))
       unfolding copyOf
       take-valid = record {
         on = valid-tile;
@@ -184,16 +187,17 @@ module _ (O : Opening) (ok : openOf O .status ≡ accepted) (m : ℕ) (J : Job) 
         waiting = waiting;
       }
 
-      take-ok : answer (J .rec) taking ≡ accepted
-      unfolding answer
-      take-ok = accept .takes (J .rec) t (J .image) (J .states) (copyOf T t (J .image)) .1 take-valid
+      abbrev take : Call
+      take = taking t (copyOf T t (J .image))
 
-      take-after : after J taking ≡ tookTile J t
-      unfolding answer
-      take-after = after-accepted J taking take-ok ∙ take-changed J t (copyOf T t (J .image)) take-ok
+      take-ok : answer J take ≡ accepted
+      take-ok = take-status J (M .stands) t (copyOf T t (J .image)) ∙ take-answers (rec J) t (J .image) (J .states) (copyOf T t (J .image)) .accepts .1 (take-passes (rec J) t (J .image) (J .states) (copyOf T t (J .image)) .1 take-valid)
 
-      take-mid : Mid O (after J taking) w
-      take-mid = rw (after-accepted J taking take-ok) (took O ok m J H t (copyOf T t (J .image)) take-ok)
+      take-after : stage (after J take) ≡ tookTile (stage J) t
+      take-after = take-stage J (M .stands) t (copyOf T t (J .image)) take-ok
+
+      take-mid : Mid O (after J take) w
+      take-mid = took words O ok m J M t (copyOf T t (J .image)) take-ok
 
     -- out: what work makes of its copy can be put back
     module _ (out : getD (J .states) t 0 ≡ 1) where
@@ -209,47 +213,47 @@ module _ (O : Opening) (ok : openOf O .status ≡ accepted) (m : ℕ) (J : Job) 
       result-fits : CopyFits T (inkCount I) t (pixels (made .cpe) (made .indices))
       result-fits = made-fits (sharedHere O) t (J .last t) low last-fits
 
-      work-valid : ValidWork (J .rec) t (I .pinned) (cppOf I (O .cpp)) (J .last t) (inksOf I)
+      work-valid : ValidWork (rec J) t (I .pinned) (cppOf I (O .cpp)) (J .last t) (inksOf I)
       work-valid = record {
         valid = valid-record;
         tile-has = rw (H .recorded .planned) low;
-        mask-length = λ h. ready O ok .mask h ∙ sym pixels-of;
-        cpp-length = ready O ok .cpp-room;
+        mask-length = λ h. ready O (opens words O ok) .mask h ∙ sym pixels-of;
+        cpp-length = ready O (opens words O ok) .cpp-room;
         room = record { cpe-length = rw (H .recorded .planned) (last-fits .cpe); indices-length = rw (H .recorded .planned) (last-fits .indices) };
-        inks-length = rw (H .recorded .planned) (ready O ok .inks-room);
+        inks-length = rw (H .recorded .planned) (ready O (opens words O ok) .inks-room);
         named = rw (H .recorded .planned) (last-fits .named);
       }
 
-      worked : WorkMade O J t made
+      worked : WorkMade words O J t made
       worked = record {
-        given = J .rec;
-        known = H .present;
-        ok = rw (leaves O ok) work-ok;
-        same = rw (leaves O ok) (work-made (planOf O) (I .pinned) (inksOf I) (cppOf I (O .cpp)) J w H t (J .rec) (H .recorded .planned) work-ok);
+        run = J .words;
+        known = M .present;
+        ok = rw (run-leaves words O ok, on) work-ok;
+        same = rw (run-leaves words O ok, on) (work-made (planOf O) (I .pinned) (inksOf I) (cppOf I (O .cpp)) (stage J) w H t (rec J) (H .recorded .planned) work-ok);
       }
         where
-          work-ok : workOf (J .rec) t (I .pinned) (cppOf I (O .cpp)) (J .last t) (inksOf I) .status ≡ accepted
-          work-ok = accept .works (J .rec) t (I .pinned) (cppOf I (O .cpp)) (J .last t) (inksOf I) .1 work-valid
+          on : workRun (J .words) t (I .pinned) (cppOf I (O .cpp)) (J .last t) (inksOf I) ≡ workOf (rec J) t (I .pinned) (cppOf I (O .cpp)) (J .last t) (inksOf I)
+          on = work-on (J .words) (M .stands) t (I .pinned) (cppOf I (O .cpp)) (J .last t) (inksOf I)
+
+          work-ok : workOf (rec J) t (I .pinned) (cppOf I (O .cpp)) (J .last t) (inksOf I) .status ≡ accepted
+          work-ok = work-answers (rec J) t (I .pinned) (cppOf I (O .cpp)) (J .last t) (inksOf I) .accepts .1 (work-passes (rec J) t (I .pinned) (cppOf I (O .cpp)) (J .last t) (inksOf I) .1 work-valid)
 
       few : made .progress .accepted ≤ area (tile T t)
       unfolding brought
       few = rw last-is (brought-few (sharedHere O) (pixelsNow (w .now)) t)
 
       -- the tile is one of those to come, so its pixels are still free
-      fits-now : J .rec .accepted + made .progress .accepted ≤ T .height * T .width
+      fits-now : rec J .accepted + made .progress .accepted ≤ T .height * T .width
       unfolding isBack
       fits-now =
           let mine : cond (toCome T (w .phase) (isBack (J .states)) t) (area (tile T t)) 0 ≡ area (tile T t) = rw (here, out) (either-way (ltb (w .phase) (phaseOf T t))) in
-          omega (arith, few, mine, sum-term (λ t. cond (toCome T (w .phase) (isBack (J .states)) t) (area (tile T t)) 0) (tiles T) t low, mid-fits O m J H)
+          omega (arith, few, mine, sum-term (λ t. cond (toCome T (w .phase) (isBack (J .states)) t) (area (tile T t)) 0) (tiles T) t low, mid-fits O m (stage J) H)
         where
           either-way : (b : Bool) → cond (b || true) (area (tile T t)) 0 ≡ area (tile T t)
           either-way true = refl
           either-way false = refl
 
-      abbrev putting : Call
-      putting = putBack t (J .image) (J .states) (J .deltas) made
-
-      put-valid : ValidPutBack (J .rec) t (J .image) (J .states) (J .deltas) made
+      put-valid : ValidPutBack (rec J) t (J .image) (J .states) (J .deltas) made
       put-valid = record {
         on = valid-tile;
         count-most = rw (H .recorded .planned) few;
@@ -260,29 +264,34 @@ module _ (O : Opening) (ok : openOf O .status ≡ accepted) (m : ℕ) (J : Job) 
         named = rw (H .recorded .planned) (result-fits .named);
       }
 
-      put-ok : answer (J .rec) putting ≡ accepted
-      unfolding answer
-      put-ok = accept .puts (J .rec) t (J .image) (J .states) (J .deltas) made .1 put-valid
+      abbrev putBack : Call
+      putBack = putting t made
 
-      put-after : after J putting ≡ tileBack J t made
-      unfolding answer
-      put-after = after-accepted J putting put-ok ∙ putBack-changed J t made put-ok
+      put-ok : answer J putBack ≡ accepted
+      put-ok = put-status J (M .stands) t made ∙ putBack-answers (rec J) t (J .image) (J .states) (J .deltas) made .accepts .1 (putBack-passes (rec J) t (J .image) (J .states) (J .deltas) made .1 put-valid)
 
-      put-mid : Mid O (after J putting) w
-      put-mid = rw (after-accepted J putting put-ok) (put O ok m J H t made put-ok worked)
+      put-mid : Mid O (after J putBack) w
+      put-mid = put words O ok m J M t made put-ok worked
+
+      put-after : stage (after J putBack) ≡ tileBack (stage J) t made
+      unfolding withProgress
+      put-after = put-stage J (M .stands) t made put-ok (record { initial = d .initial; error = d .error })
+        where
+          d : Doubles (rec J)
+          d = doubles-of O m (stage J) H
 
   -- all back: the phase can be closed
-  closing : ((t : ℕ) → t < tiles T → inPhase T (w .phase) t ≡ true → 1 < getD (J .states) t 0) → Closing O J 1
-  unfolding Fair AllAccepted closesIn closesAfter Own Brings isClose answer
-  closing back = record {
-    calls = close (J .counts) (J .states) (J .deltas) ∷ [];
+  all-back : ((t : ℕ) → t < tiles T → inPhase T (w .phase) t ≡ true → 1 < getD (J .states) t 0) → Closing words O J 1
+  unfolding Fair AllAccepted closesIn closesAfter Own Brings isClose
+  all-back back = record {
+    calls = closing ∷ [];
     fair = (λ a. ((refl, refl, refl), tt), tt);
     accepted = (close-ok, tt);
     closed = rw (close-ok, is-accepted);
     few = omega arith;
   }
     where
-      close-valid : ValidClose (J .rec) (J .counts) (J .states) (J .deltas)
+      close-valid : ValidClose (rec J) (J .counts) (J .states) (J .deltas)
       close-valid = record {
         valid = valid-record;
         unfinished = running;
@@ -292,8 +301,8 @@ module _ (O : Opening) (ok : openOf O .status ≡ accepted) (m : ℕ) (J : Job) 
         back = λ t l i. back t (rw (H .recorded .planned) at l) (rw (H .recorded .planned, H .recorded .phase) at i);
       }
 
-      close-ok : closeOf (J .rec) (J .counts) (J .states) (J .deltas) .status ≡ accepted
-      close-ok = accept .closes (J .rec) (J .counts) (J .states) (J .deltas) .1 close-valid
+      close-ok : answer J closing ≡ accepted
+      close-ok = close-status J (M .stands) ∙ close-answers (rec J) (J .counts) (J .states) (J .deltas) .accepts .1 (close-passes (rec J) (J .counts) (J .states) (J .deltas) .1 close-valid)
 
   missing-is : missing J ≡ missingAt T (w .phase) (J .states)
   unfolding missing isMissing
@@ -301,7 +310,7 @@ module _ (O : Opening) (ok : openOf O .status ≡ accepted) (m : ℕ) (J : Job) 
 
 -- ---- all tiles, one after the other
 
-module _ (O : Opening) (ok : openOf O .status ≡ accepted) (m : ℕ) where
+module _ (words : List ℕ) (O : Opening) (ok : openRun words O .status ≡ accepted) (m : ℕ) where
   abbrev T′ : Tiling
   T′ = tilingOf (O .input)
 
@@ -311,54 +320,54 @@ module _ (O : Opening) (ok : openOf O .status ≡ accepted) (m : ℕ) where
   -- k tiles are not yet back
   record Left (k : ℕ) (J : Job) : Type 0 where
     mid : Mid O J (phases O m)
-    running : J .rec .finished ≡ false
+    running : rec J .finished ≡ false
     count : missingAt T′ phase (J .states) ≡ k
 
-  module _ (k : ℕ) (rest : (J : Job) → Left k J → Closing O J (2 * k + 1)) (J : Job) (L : Left (suc k) J) (t : ℕ) (low : t < tiles T′) (here : inPhase T′ phase t ≡ true) where
-    from-out : getD (J .states) t 0 ≡ 1 → Closing O J (2 * k + 1 + 1)
+  module _ (k : ℕ) (rest : (J : Job) → Left k J → Closing words O J (2 * k + 1)) (J : Job) (L : Left (suc k) J) (t : ℕ) (low : t < tiles T′) (here : inPhase T′ phase t ≡ true) where
+    from-out : getD (J .states) t 0 ≡ 1 → Closing words O J (2 * k + 1 + 1)
     unfolding Own Brings isClose tileBack withProgress
     from-out out =
         let H = L .mid in
         let run = L .running in
-        let c = putting O ok m J H run t low here out in
-        let there = put-after O ok m J H run t low here out in
-        let fewer = missing-back T′ phase (J .states) t (in-states O ok m J H run t low here) here out low in
+        let c = putBack words O ok m J H run t low here out in
+        let there = put-after words O ok m J H run t low here out in
+        let fewer = missing-back T′ phase (J .states) t (in-states words O ok m J H run t low here) here out low in
         let next : Left k (after J c) = record {
-          mid = put-mid O ok m J H run t low here out;
-          running = rw there run;
-          count = rw there (omega (arith, fewer, L .count));
+          mid = put-mid words O ok m J H run t low here out;
+          running = ap (λ (q : Stage). q .rec .finished) there ∙ run;
+          count = ap (λ (q : Stage). missingAt T′ phase (q .states)) there ∙ omega (arith, fewer, L .count);
         } in
-        before O J c (2 * k + 1) (put-ok O ok m J H run t low here out) (refl, refl, refl) (worked O ok m J H run t low here out) refl (rest (after J c) next)
+        before words O J c (2 * k + 1) (put-ok words O ok m J H run t low here out) (refl, refl, refl, refl) (worked words O ok m J H run t low here out) refl (rest (after J c) next)
 
   -- a tile that is waiting is taken, and is then out
-  module _ (k : ℕ) (rest : (J : Job) → Left k J → Closing O J (2 * k + 1)) (J : Job) (L : Left (suc k) J) (t : ℕ) (low : t < tiles T′) (here : inPhase T′ phase t ≡ true) where
-    from-waiting : getD (J .states) t 0 ≡ 0 → Closing O J (2 * k + 1 + 1 + 1)
+  module _ (k : ℕ) (rest : (J : Job) → Left k J → Closing words O J (2 * k + 1)) (J : Job) (L : Left (suc k) J) (t : ℕ) (low : t < tiles T′) (here : inPhase T′ phase t ≡ true) where
+    from-waiting : getD (J .states) t 0 ≡ 0 → Closing words O J (2 * k + 1 + 1 + 1)
     unfolding Own Brings isClose tookTile
     from-waiting waiting =
         let H = L .mid in
         let run = L .running in
-        let c = taking O ok m J H run t low here waiting in
-        let there = take-after O ok m J H run t low here waiting in
-        let room = in-states O ok m J H run t low here in
+        let c = take words O ok m J H run t low here waiting in
+        let there = take-after words O ok m J H run t low here waiting in
+        let room = in-states words O ok m J H run t low here in
         let next : Left (suc k) (after J c) = record {
-          mid = take-mid O ok m J H run t low here waiting;
-          running = rw there run;
-          count = rw there (missing-took T′ phase (J .states) t room waiting ∙ L .count);
+          mid = take-mid words O ok m J H run t low here waiting;
+          running = ap (λ (q : Stage). q .rec .finished) there ∙ run;
+          count = ap (λ (q : Stage). missingAt T′ phase (q .states)) there ∙ missing-took T′ phase (J .states) t room waiting ∙ L .count;
         } in
-        before O J c (2 * k + 1 + 1) (take-ok O ok m J H run t low here waiting) (refl, refl) tt refl
-        (from-out k rest (after J c) next t low here (rw there (getD-set-same (J .states) t 1 0 room)))
+        before words O J c (2 * k + 1 + 1) (take-ok words O ok m J H run t low here waiting) (refl, refl, refl) tt refl
+        (from-out k rest (after J c) next t low here (ap (λ (q : Stage). getD (q .states) t 0) there ∙ getD-set-same (J .states) t 1 0 room))
 
-    from-away : getD (J .states) t 0 ≤ 1 → Closing O J (2 * suc k + 1)
+    from-away : getD (J .states) t 0 ≤ 1 → Closing words O J (2 * suc k + 1)
     from-away away = go (ℕ-discrete (getD (J .states) t 0) 0)
       where
-        go : Dec (getD (J .states) t 0 ≡ 0) → Closing O J (2 * suc k + 1)
+        go : Dec (getD (J .states) t 0 ≡ 0) → Closing words O J (2 * suc k + 1)
         go (yes q) = at-most _ (omega arith) (from-waiting q)
         go (no q) = at-most _ (omega arith) (from-out k rest J L t low here (omega (arith, away, q)))
 
-  all-closed : (k : ℕ) (J : Job) → Left k J → Closing O J (2 * k + 1)
+  all-closed : (k : ℕ) (J : Job) → Left k J → Closing words O J (2 * k + 1)
   unfolding isBack
   all-closed zero J L =
-      at-most _ (omega arith) (closing O ok m J (L .mid) (L .running) (λ t l i.
+      at-most _ (omega arith) (all-back words O ok m J (L .mid) (L .running) (λ t l i.
       ltb-true 1 (getD (J .states) t 0) (is-back _ _ i (sum-none (awayAt T′ phase (J .states)) (tiles T′) (L .count) t l))))
   all-closed (suc k) J L =
       let some = sum-some (awayAt T′ phase (J .states)) (tiles T′) (λ e. omega (arith, e, L .count)) in
@@ -367,7 +376,7 @@ module _ (O : Opening) (ok : openOf O .status ≡ accepted) (m : ℕ) where
       from-away k (all-closed k) J L t (some .1) (a .0) (ltb-false 1 (getD (J .states) t 0) (a .1))
 
 pub progress : Progress
-progress O J r running =
-    let k = reached-mid O J r in
-    let left : Left O (r .opened) (k .0) _ J = record { mid = k .1; running = running; count = refl } in
-    rw (missing-is O (r .opened) (k .0) J (k .1) running) (all-closed O (r .opened) (k .0) _ J left)
+progress words O J r running =
+    let k = reached-mid words O J r in
+    let left : Left words O (r .opened) (k .0) _ J = record { mid = k .1; running = running; count = refl } in
+    rw (missing-is words O (r .opened) (k .0) J (k .1) running) (all-closed words O (r .opened) (k .0) _ J left)

@@ -1,13 +1,12 @@
 -- The calls on a job as C hosts make them, with the record as a lent run of numbers (document 01, 'Behind the walk'): 'A run of another length is 12,
 -- before all else, and a refused open leaves the run.' A run that passes stands for its record; the calls are those of the other files. Take and work
--- only read the run. The number 0 comes with the place 0 only, so it alone tells that a judgement accepts.
+-- only read the run. The contracts of the exported functions (the crate dbs) cite these definitions, and demands 1 and 3 are stated of them.
 use Prim.Native.Nat.{ℕ}
-use mathlib.Core.Bool.{Bool, cond}
+use mathlib.Core.Bool.{cond}
 use mathlib.Core.List.{List, [], _∷_}
-use lib.Dec.{eqb}
 use lib.Ieee.{Float}
 use Rattle.base.specs.declared.Status.{Status}
-use Rattle.base.specs.Refusal.{judge}
+use Rattle.base.specs.Refusal.{judge, isAccepted}
 use Rattle.tile.specs.Tile.{State, state, noProgress}
 use Rattle.job.specs.declared.JobRecord.{JobRecord}
 use Rattle.job.specs.Words.{runTest, wordsTests, decode, encode, rewritten}
@@ -17,9 +16,6 @@ use Rattle.job.specs.Take.{Taken, taken, takeOf}
 use Rattle.job.specs.Work.{Worked, worked, workOf}
 use Rattle.job.specs.PutBack.{PutBack, putBackOf}
 use Rattle.job.specs.Close.{Closed, closeOf}
-
-abbrev passes : Status → Bool
-passes s = eqb (s .number) 0
 
 -- ---- open: the run is only written
 
@@ -41,30 +37,32 @@ unfoldable pub openRun : List ℕ → Opening → OpenedRun
 openRun words O =
     let s = judge (runTest words ∷ []) in
     let a = openOf O in
-    let new = openedRun (a .status) (cond (passes (a .status)) (encode (a .rec)) words) (a .cpe) (a .cpp) (a .states) (a .deltas) (a .inks) in
+    let new = openedRun (a .status) (cond (isAccepted (a .status)) (encode (a .rec)) words) (a .cpe) (a .cpp) (a .states) (a .deltas) (a .inks) in
     let kept = openedRun s words (O .cpe) (O .cpp) (O .states) (O .deltas) (O .inks) in
-    cond (passes s) new kept
+    cond (isAccepted s) new kept
 
--- ---- take and work: the run is only read
+-- ---- the calls that read the run
+
+-- the run's own tests; a run that passes is handed to the call as the record it stands for
+unfoldable pub onRun : {A : Type 0} → List ℕ → (Status → A) → (JobRecord → A) → A
+onRun words refused call =
+    let s = judge (wordsTests words) in
+    let made = call (decode words) in
+    let kept = refused s in
+    cond (isAccepted s) made kept
+
+-- take and work only read it
 
 unfoldable pub takeRun : List ℕ → ℕ → Pixels → List ℕ → Pixels → Taken
-takeRun words t image states copy =
-    let s = judge (wordsTests words) in
-    let given = takeOf (decode words) t image states copy in
-    let kept = taken s (decode words) states copy in
-    cond (passes s) given kept
+takeRun words t image states copy = onRun words (λ s. taken s (decode words) states copy) (λ r. takeOf r t image states copy)
 
 unfoldable pub workRun : List ℕ → ℕ → List ℕ → List Float → Pixels → List Float → Worked
-workRun words t pinned cpp copy inks =
-    let s = judge (wordsTests words) in
-    let given = workOf (decode words) t pinned cpp copy inks in
-    let kept = worked s (state (copy .cpe) (copy .indices) noProgress) in
-    cond (passes s) given kept
+workRun words t pinned cpp copy inks = onRun words (λ s. worked s (state (copy .cpe) (copy .indices) noProgress)) (λ r. workOf r t pinned cpp copy inks)
 
--- ---- put back and close: an accepted call rewrites the run
+-- an accepted put back or close rewrites it
 
 unfoldable pub wordsAfter : List ℕ → Status → JobRecord → List ℕ
-wordsAfter words s r = let new = rewritten words r in cond (passes s) new words
+wordsAfter words s r = let new = rewritten words r in cond (isAccepted s) new words
 
 pub record PutBackRun : Type 0 where
   pub status : Status
@@ -76,13 +74,13 @@ pub record PutBackRun : Type 0 where
 abbrev pub putBackWith : Status → List ℕ → Pixels → List ℕ → List Float → PutBackRun
 putBackWith status words image states deltas = record { status = status; words = words; image = image; states = states; deltas = deltas }
 
+-- a put back on the record, with the run that it leaves
+unfoldable pub putBackOver : List ℕ → PutBack → PutBackRun
+putBackOver words a = putBackWith (a .status) (wordsAfter words (a .status) (a .rec)) (a .image) (a .states) (a .deltas)
+
 unfoldable pub putBackRun : List ℕ → ℕ → Pixels → List ℕ → List Float → State → PutBackRun
 putBackRun words t image states deltas made =
-    let s = judge (wordsTests words) in
-    let a = putBackOf (decode words) t image states deltas made in
-    let given = putBackWith (a .status) (wordsAfter words (a .status) (a .rec)) (a .image) (a .states) (a .deltas) in
-    let kept = putBackWith s words image states deltas in
-    cond (passes s) given kept
+    onRun words (λ s. putBackWith s words image states deltas) (λ r. putBackOver words (putBackOf r t image states deltas made))
 
 pub record ClosedRun : Type 0 where
   pub status : Status
@@ -93,10 +91,9 @@ pub record ClosedRun : Type 0 where
 abbrev pub closedWith : Status → List ℕ → List ℕ → List ℕ → ClosedRun
 closedWith status words counts states = record { status = status; words = words; counts = counts; states = states }
 
+-- a close on the record, with the run that it leaves
+unfoldable pub closedOver : List ℕ → Closed → ClosedRun
+closedOver words a = closedWith (a .status) (wordsAfter words (a .status) (a .rec)) (a .counts) (a .states)
+
 unfoldable pub closeRun : List ℕ → List ℕ → List ℕ → List Float → ClosedRun
-closeRun words counts states deltas =
-    let s = judge (wordsTests words) in
-    let a = closeOf (decode words) counts states deltas in
-    let given = closedWith (a .status) (wordsAfter words (a .status) (a .rec)) (a .counts) (a .states) in
-    let kept = closedWith s words counts states in
-    cond (passes s) given kept
+closeRun words counts states deltas = onRun words (λ s. closedWith s words counts states) (λ r. closedOver words (closeOf r counts states deltas))

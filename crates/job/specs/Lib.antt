@@ -7,7 +7,7 @@ pub mod Work
 pub mod PutBack
 pub mod Close
 pub mod Valid
+pub mod Boundary
 pub mod Runs
 pub mod Claim
 pub mod Companions
-pub mod Boundary

@@ -1,81 +1,135 @@
 -- Run two of demand 3: a newly opened job, and any list of take, put-back and close calls on it, refused ones included (document 01, 'Job calls':
--- 'Each call is given the record that the call before it returned (the first one, open's)'). What a call answers and leaves is the definition that the
--- contract of its function cites.
+-- 'Each call is given the record that the call before it returned (the first one, open's)'). The job holds the run of 12 numbers that its record is for a C
+-- host. What a call answers and leaves is the definition that the contract of the exported function cites (Boundary.antt), accepted or not.
 use Prim.Native.Nat.{ℕ, suc}
-use mathlib.Core.Bool.{Bool, true, false, cond}
+use mathlib.Core.Bool.{Bool, true, false, cond, _&&_}
 use mathlib.Core.List.{List, [], _∷_}
 use lib.Dec.{eqb}
 use lib.Ieee.{Float}
-use Rattle.base.specs.Refusal.{isAccepted}
 use Rattle.base.specs.declared.Status.{Status}
+use Rattle.base.specs.Refusal.{isAccepted}
 use Rattle.tile.specs.Tile.{State}
 use Rattle.job.specs.declared.JobRecord.{JobRecord}
+use Rattle.job.specs.Words.{decode}
 use Rattle.job.specs.Copy.{Pixels, pixels}
-use Rattle.job.specs.Open.{Opening, openOf}
-use Rattle.job.specs.Take.{takeOf}
-use Rattle.job.specs.PutBack.{putBackOf}
-use Rattle.job.specs.Close.{closeOf}
+use Rattle.job.specs.Open.{Opening}
+use Rattle.job.specs.Boundary.{openRun, takeRun, putBackRun, closeRun}
 
--- A call of the list, with what it is given beside the record.
+-- A buffer that a call is lent: the job's own, or any other.
+pub data Lent (A : Type 0) : Type 0 where
+  own : Lent A
+  other : A → Lent A
+
+-- what the call is given in it
+abbrev pub given : {A : Type 0} → A → Lent A → A
+given mine own = mine
+given mine (other a) = a
+
+-- the job's own one after a call that left `now` in the buffer lent
+abbrev pub left : {A : Type 0} → A → Lent A → A → A
+left mine own now = now
+left mine (other a) now = mine
+
+-- A call of the list, with what it is given beside the run.
 pub data Call : Type 0 where
-  take : ℕ → Pixels → List ℕ → Pixels → Call  -- tile, image, tile states, lent copies
-  putBack : ℕ → Pixels → List ℕ → List Float → State → Call  -- tile, image, tile states, deltas, and what is brought
-  close : List ℕ → List ℕ → List Float → Call  -- counts, tile states, deltas
+  take : ℕ → Lent (List ℕ) → Lent (List Float) → Lent (List ℕ) → Pixels → Call  -- tile; indices, cpe, tile states; the worker's copies
+  putBack : ℕ → Lent (List ℕ) → Lent (List Float) → Lent (List ℕ) → Lent (List Float) → State → Call  -- tile; indices, cpe, tile states, deltas; what is brought
+  close : Lent (List ℕ) → Lent (List ℕ) → Lent (List Float) → Call  -- counts, tile states, deltas
 
--- A job: the record that the last call returned, the job's own buffers that calls write, the copy that each tile's last accepted take gave, and
--- every record that was returned.
+-- A job: the run that the last call left, the job's own buffers that calls write, the copy that each tile's last accepted take gave, and every run
+-- that open or a call left.
 pub record Job : Type 0 where
-  pub rec : JobRecord
+  pub words : List ℕ
   pub image : Pixels
   pub counts : List ℕ
   pub states : List ℕ
   pub deltas : List Float
   pub last : ℕ → Pixels
-  pub seen : List JobRecord
+  pub seen : List (List ℕ)
+
+-- the record that its run stands for
+abbrev pub rec : Job → JobRecord
+rec J = decode (J .words)
 
 -- what the open left; no tile was taken, and no accepted put back reads a copy that was not
-unfoldable pub start : Opening → Job
-start O =
-    let a = openOf O in
-    record { rec = a .rec; image = pixels (a .cpe) (O .input .indices); counts = O .counts; states = a .states; deltas = a .deltas; last = λ t. pixels [] []; seen = a .rec ∷ [] }
+unfoldable pub start : List ℕ → Opening → Job
+start words O =
+    let a = openRun words O in
+    record {
+      words = a .words;
+      image = pixels (a .cpe) (O .input .indices);
+      counts = O .counts;
+      states = a .states;
+      deltas = a .deltas;
+      last = λ t. pixels [] [];
+      seen = a .words ∷ [];
+    }
 
-unfoldable pub answer : JobRecord → Call → Status
-answer r (take t image states copy) = takeOf r t image states copy .status
-answer r (putBack t image states deltas made) = putBackOf r t image states deltas made .status
-answer r (close counts states deltas) = closeOf r counts states deltas .status
+-- the image that a call is lent: indices and cpe
+abbrev pub lentImage : Job → Lent (List ℕ) → Lent (List Float) → Pixels
+lentImage J indices cpe = pixels (given (J .image .cpe) cpe) (given (J .image .indices) indices)
 
--- the record returned, also by a refused call
-unfoldable pub returned : JobRecord → Call → JobRecord
-returned r (take t image states copy) = takeOf r t image states copy .rec
-returned r (putBack t image states deltas made) = putBackOf r t image states deltas made .rec
-returned r (close counts states deltas) = closeOf r counts states deltas .rec
+-- the answer of a call, and the job after it
+pub record Ran : Type 0 where
+  pub status : Status
+  pub job : Job
 
--- the job after an accepted call, and after a refused one: what a refused call was given need not be the job's
-unfoldable pub changed : Job → Call → Job
-changed J (take t image states copy) =
-    let a = takeOf (J .rec) t image states copy in
-    record { rec = a .rec; image = image; counts = J .counts; states = a .states; deltas = J .deltas; last = λ u. cond (eqb u t) (a .copy) (J .last u); seen = a .rec ∷ J .seen }
-changed J (putBack t image states deltas made) =
-    let a = putBackOf (J .rec) t image states deltas made in
-    record { rec = a .rec; image = a .image; counts = J .counts; states = a .states; deltas = a .deltas; last = J .last; seen = a .rec ∷ J .seen }
-changed J (close counts states deltas) =
-    let a = closeOf (J .rec) counts states deltas in
-    record { rec = a .rec; image = J .image; counts = a .counts; states = a .states; deltas = deltas; last = J .last; seen = a .rec ∷ J .seen }
+-- WHAT A CALL DOES. Take only reads the run and the image; close only reads the deltas.
+unfoldable pub ran : Job → Call → Ran
+ran J (take t indices cpe states copy) =
+    let a = takeRun (J .words) t (lentImage J indices cpe) (given (J .states) states) copy in
+    record {
+      status = a .status;
+      job = record {
+        words = J .words;
+        image = J .image;
+        counts = J .counts;
+        states = left (J .states) states (a .states);
+        deltas = J .deltas;
+        last = λ u. cond (isAccepted (a .status) && eqb u t) (a .copy) (J .last u);
+        seen = J .words ∷ J .seen;
+      };
+    }
+ran J (putBack t indices cpe states deltas made) =
+    let a = putBackRun (J .words) t (lentImage J indices cpe) (given (J .states) states) (given (J .deltas) deltas) made in
+    record {
+      status = a .status;
+      job = record {
+        words = a .words;
+        image = pixels (left (J .image .cpe) cpe (a .image .cpe)) (left (J .image .indices) indices (a .image .indices));
+        counts = J .counts;
+        states = left (J .states) states (a .states);
+        deltas = left (J .deltas) deltas (a .deltas);
+        last = J .last;
+        seen = a .words ∷ J .seen;
+      };
+    }
+ran J (close counts states deltas) =
+    let a = closeRun (J .words) (given (J .counts) counts) (given (J .states) states) (given (J .deltas) deltas) in
+    record {
+      status = a .status;
+      job = record {
+        words = a .words;
+        image = J .image;
+        counts = left (J .counts) counts (a .counts);
+        states = left (J .states) states (a .states);
+        deltas = J .deltas;
+        last = J .last;
+        seen = a .words ∷ J .seen;
+      };
+    }
 
-unfoldable pub refused : Job → JobRecord → Job
-refused J r = record { rec = r; image = J .image; counts = J .counts; states = J .states; deltas = J .deltas; last = J .last; seen = r ∷ J .seen }
+abbrev pub answer : Job → Call → Status
+answer J c = ran J c .status
 
-unfoldable pub after : Job → Call → Job
-after J c =
-    let yes = changed J c in
-    let no = refused J (returned (J .rec) c) in
-    cond (isAccepted (answer (J .rec) c)) yes no
+abbrev pub after : Job → Call → Job
+after J c = ran J c .job
 
 unfoldable pub isClose : Call → Bool
-isClose (take t image states copy) = false
-isClose (putBack t image states deltas made) = false
+isClose (take t indices cpe states copy) = false
+isClose (putBack t indices cpe states deltas made) = false
 isClose (close counts states deltas) = true
 
 -- an accepted close counts
 unfoldable pub closesAfter : ℕ → Job → Call → ℕ
-closesAfter m J c = let more = cond (isClose c) (suc m) m in cond (isAccepted (answer (J .rec) c)) more m
+closesAfter m J c = let more = cond (isClose c) (suc m) m in cond (isAccepted (answer J c)) more m
