@@ -1,7 +1,8 @@
 -- `dbs_put_back` meets its contract. Assumes nothing.
 use Rattle.job.specs.Copy.{Pixels, pixels}
 use Rattle.tile.specs.Tile.{State, state}
-use Rattle.dbs.proofs.RunLaws.{read-twelve, put-unread, put-made, put-kept}
+use Rattle.job.specs.Boundary.{putBackRun}
+use Rattle.dbs.proofs.RunLaws.{read-twelve, unread, read, put-made, put-kept}
 use borrow.Author.Needs.{needs}
 use Rattle.dbs.proofs.dbs_put_back.Statement.{statement}
 use Rattle.dbs.proofs.dbs_put_back.Tie as tie
@@ -19,9 +20,8 @@ same-length : tie.Need-same-length
 same-length c = search needs
 
 returns : tie.Need-returns
-returns c =
-    let s = c .before .before .before .before .before .before .before .before .before .before .before in
-    put-unread (s .args .«record» .now) (c .before .before .check-words .ensures) (s .args .tile) (image s) (s .args .tile-states .now) (s .args .deltas .now) (brought s) (c .if1 .taken)
+unfolding putBackRun
+returns c = unread (c .before .before .before .before .before .before .before .before .before .before .before .args .«record» .now) (c .before .before .check-words .ensures) _ _ (c .if1 .taken)
 
 decode-requires : tie.Need-decode-requires
 decode-requires c κs = read-twelve (c .before .before .before .before .before .before .before .before .before .before .before .before .args .«record» .now) (c .before .before .before .check-words .ensures) (c .before .if1 .left)
@@ -48,9 +48,10 @@ same-length-6 : tie.Need-same-length-6
 same-length-6 c = search needs
 
 returns-2 : tie.Need-returns-2
+unfolding putBackRun
 returns-2 c =
     let s = c .before .before .before .before .before .before .before .before .before .before .before .before .before .before .before .before .before .before .before .before .before .before .before .before .before .before .before .before .before .before .before .before .before in
-    put-made (s .args .«record» .now) (c .before .before .before .before .before .before .before .before .before .before .before .before .before .before .before .before .before .before .before .before .before .before .before .before .check-words .ensures) (c .before .before .before .before .before .before .before .before .before .before .before .before .before .before .before .before .before .before .before .before .before .before .if1 .left) (c .before .before .before .before .before .before .before .before .before .before .before .before .before .before .before .before .before .before .before .before .decode .ensures) (s .args .tile) (image s) (s .args .tile-states .now) (s .args .deltas .now) (brought s) (c .before .before .before .before .before .before .before .before .before .before .before .before .before .before .before .put-back .ensures) (c .before .before .before .before .if2 .taken) (c .before .before .rewrite .ensures)
+    read (s .args .«record» .now) (c .before .before .before .before .before .before .before .before .before .before .before .before .before .before .before .before .before .before .before .before .before .before .before .before .check-words .ensures) _ _ (c .before .before .before .before .before .before .before .before .before .before .before .before .before .before .before .before .before .before .before .before .before .before .if1 .left) (c .before .before .before .before .before .before .before .before .before .before .before .before .before .before .before .before .before .before .before .before .decode .ensures) (put-made (s .args .«record» .now) _ (s .args .tile) (image s) (s .args .tile-states .now) (s .args .deltas .now) (brought s) (c .before .before .before .before .before .before .before .before .before .before .before .before .before .before .before .put-back .ensures) (c .before .before .before .before .if2 .taken) (c .before .before .rewrite .ensures))
 
 same-length-7 : tie.Need-same-length-7
 same-length-7 c = search needs
@@ -68,9 +69,10 @@ same-length-11 : tie.Need-same-length-11
 same-length-11 c = search needs
 
 returns-3 : tie.Need-returns-3
+unfolding putBackRun
 returns-3 c =
     let s = c .before .before .before .before .before .before .before .before .before .before .before .before .before .before .before .before .before .before .before .before .before .before .before .before .before .before .before .before .before in
-    put-kept (s .args .«record» .now) (c .before .before .before .before .before .before .before .before .before .before .before .before .before .before .before .before .before .before .before .before .check-words .ensures) (c .before .before .before .before .before .before .before .before .before .before .before .before .before .before .before .before .before .before .if1 .left) (c .before .before .before .before .before .before .before .before .before .before .before .before .before .before .before .before .decode .ensures) (s .args .tile) (image s) (s .args .tile-states .now) (s .args .deltas .now) (brought s) (c .before .before .before .before .before .before .before .before .before .before .before .put-back .ensures) (c .if2 .left)
+    read (s .args .«record» .now) (c .before .before .before .before .before .before .before .before .before .before .before .before .before .before .before .before .before .before .before .before .check-words .ensures) _ _ (c .before .before .before .before .before .before .before .before .before .before .before .before .before .before .before .before .before .before .if1 .left) (c .before .before .before .before .before .before .before .before .before .before .before .before .before .before .before .before .decode .ensures) (put-kept (s .args .«record» .now) _ (s .args .tile) (image s) (s .args .tile-states .now) (s .args .deltas .now) (brought s) (c .before .before .before .before .before .before .before .before .before .before .before .put-back .ensures) (c .if2 .left))
 
 pub dbs-put-back-spec : {M : Type 1} → statement M
 dbs-put-back-spec =

@@ -1,6 +1,6 @@
 -- `dbs_take` meets its contract. Assumes nothing.
-use Rattle.job.specs.Copy.{pixels}
-use Rattle.dbs.proofs.RunLaws.{read-twelve, take-unread, take-read}
+use Rattle.job.specs.Boundary.{takeRun}
+use Rattle.dbs.proofs.RunLaws.{read-twelve, unread, read}
 use borrow.Author.Needs.{needs}
 use Rattle.dbs.proofs.dbs_take.Statement.{statement}
 use Rattle.dbs.proofs.dbs_take.Tie as tie
@@ -9,9 +9,8 @@ check-words-requires : tie.Need-check-words-requires
 check-words-requires c κs = search needs
 
 returns : tie.Need-returns
-returns c =
-    let a = c .before .before .before .before .before .before .before .before .before .args in
-    take-unread (a .«record» .now) (c .before .before .check-words .ensures) (a .tile) (pixels (a .cpe .now) (a .indices .now)) (a .tile-states .now) (pixels (a .copy-cpe .now) (a .copy-indices .now)) (c .if1 .taken)
+unfolding takeRun
+returns c = unread (c .before .before .before .before .before .before .before .before .before .args .«record» .now) (c .before .before .check-words .ensures) _ _ (c .if1 .taken)
 
 decode-requires : tie.Need-decode-requires
 decode-requires c κs = read-twelve (c .before .before .before .before .before .before .before .before .before .args .«record» .now) (c .before .before .check-words .ensures) (c .if1 .left)
@@ -29,9 +28,8 @@ same-length-3 : tie.Need-same-length-3
 same-length-3 c = search needs
 
 returns-2 : tie.Need-returns-2
-returns-2 c =
-    let a = c .before .before .before .before .before .before .before .before .before .before .before .before .before .before .before .before .before .before .before .before .args in
-    take-read (a .«record» .now) (c .before .before .before .before .before .before .before .before .before .before .before .before .before .check-words .ensures) (c .before .before .before .before .before .before .before .before .before .before .before .if1 .left) (c .before .before .before .before .before .before .before .before .before .before .decode .ensures) (a .tile) (pixels (a .cpe .now) (a .indices .now)) (a .tile-states .now) (pixels (a .copy-cpe .now) (a .copy-indices .now)) (c .before .before .before .before .before .before .take .ensures)
+unfolding takeRun
+returns-2 c = read (c .before .before .before .before .before .before .before .before .before .before .before .before .before .before .before .before .before .before .before .before .args .«record» .now) (c .before .before .before .before .before .before .before .before .before .before .before .before .before .check-words .ensures) _ _ (c .before .before .before .before .before .before .before .before .before .before .before .if1 .left) (c .before .before .before .before .before .before .before .before .before .before .decode .ensures) (rw (← c .before .before .before .before .before .before .before .before .before .before .decode .ensures) (c .before .before .before .before .before .before .take .ensures))
 
 pub dbs-take-spec : {M : Type 1} → statement M
 dbs-take-spec =

@@ -1,6 +1,6 @@
 -- `dbs_work` meets its contract. Assumes nothing.
-use Rattle.job.specs.Copy.{pixels}
-use Rattle.dbs.proofs.RunLaws.{read-twelve, work-unread, work-read}
+use Rattle.job.specs.Boundary.{workRun}
+use Rattle.dbs.proofs.RunLaws.{read-twelve, unread, read}
 use borrow.Author.Needs.{needs}
 use Rattle.dbs.proofs.dbs_work.Statement.{statement}
 use Rattle.dbs.proofs.dbs_work.Tie as tie
@@ -12,9 +12,8 @@ refused-requires : tie.Need-refused-requires
 refused-requires c κs = search needs
 
 returns : tie.Need-returns
-returns c =
-    let a = c .before .before .before .before .before .before .before .before .before .before .args in
-    rw (c .refused .ensures) (work-unread (a .«record» .now) (c .before .before .before .check-words .ensures) (a .tile) (a .pinned .now) (a .cpp .now) (pixels (a .copy-cpe .now) (a .copy-indices .now)) (a .inks .now) (c .before .if1 .taken))
+unfolding workRun
+returns c = rw (c .refused .ensures) (unread (c .before .before .before .before .before .before .before .before .before .before .args .«record» .now) (c .before .before .before .check-words .ensures) _ _ (c .before .if1 .taken))
 
 decode-requires : tie.Need-decode-requires
 decode-requires c κs = read-twelve (c .before .before .before .before .before .before .before .before .before .args .«record» .now) (c .before .before .check-words .ensures) (c .if1 .left)
@@ -29,9 +28,8 @@ same-length-2 : tie.Need-same-length-2
 same-length-2 c = search needs
 
 returns-2 : tie.Need-returns-2
-returns-2 c =
-    let a = c .before .before .before .before .before .before .before .before .before .before .before .before .before .before .before .before .before .args in
-    work-read (a .«record» .now) (c .before .before .before .before .before .before .before .before .before .before .check-words .ensures) (c .before .before .before .before .before .before .before .before .if1 .left) (c .before .before .before .before .before .before .before .decode .ensures) (a .tile) (a .pinned .now) (a .cpp .now) (pixels (a .copy-cpe .now) (a .copy-indices .now)) (a .inks .now) (c .before .before .before .before .work .ensures)
+unfolding workRun
+returns-2 c = read (c .before .before .before .before .before .before .before .before .before .before .before .before .before .before .before .before .before .args .«record» .now) (c .before .before .before .before .before .before .before .before .before .before .check-words .ensures) _ _ (c .before .before .before .before .before .before .before .before .if1 .left) (c .before .before .before .before .before .before .before .decode .ensures) (c .before .before .before .before .work .ensures)
 
 pub dbs-work-spec : {M : Type 1} → statement M
 dbs-work-spec =
