@@ -2,8 +2,9 @@
 -- deltas are those of tiles refined on such copies. Assumes nothing.
 use Prim.Native.Nat.{ℕ, _*_, _<_}
 use native.Mathlib.Omega.{arith}
-use mathlib.Core.Path.{_≡_, refl, sym, ap, subst}
-use mathlib.Core.Bool.{Bool, true, false, cond}
+use mathlib.Core.Path.{_≡_, refl, sym, ap, _∙_, subst}
+use mathlib.Core.Logic.{_≢_}
+use mathlib.Core.Bool.{Bool, true, false, cond, true≢false}
 use mathlib.Core.List.{List, [], _∷_, List·Memᴰ}
 use lib.Dec.{lit≤, eqb}
 use lib.ListN.{length, replicate, length-replicate, getD-replicate}
@@ -27,22 +28,25 @@ use Rattle.walkbounds.proofs.Walks.{Walked, some-walked}
 use Rattle.input.specs.Input.{Input, inputTests}
 use Rattle.input.proofs.Validity.{valid-iff}
 use Rattle.prepare.specs.Prepare.{tilingOf, inksOf, cppOf, sharedOf}
-use Rattle.job.specs.declared.JobRecord.{JobRecord}
 use Rattle.job.specs.declared.Plan.{Plan}
 use Rattle.job.specs.Record.{jobShared}
 use Rattle.job.specs.Copy.{Pixels, copyOf, refinedCopy}
+use Rattle.job.specs.Words.{decode}
 use Rattle.job.specs.Open.{Opening, firstRecord, openOf}
-use Rattle.job.specs.Work.{workOf}
-use Rattle.job.specs.Runs.{Call, take as takeCall, putBack, close, Job, start, answer, changed, refused, after, closesAfter}
-use Rattle.job.specs.Claim.{Own, WorkMade, Brings, Fair, phases}
+use Rattle.job.specs.Work.{Worked, workOf}
+use Rattle.job.specs.PutBack.{withProgress}
+use Rattle.job.specs.Boundary.{openRun}
+use Rattle.job.specs.Runs.{Call, take as takeCall, putBack, close, Job, rec, start, ran, answer, after, closesAfter}
+use Rattle.job.specs.Claim.{Own, workOn, WorkMade, Brings, Fair, phases}
 use Rattle.job.proofs.Validity.{work-passes}
-use Rattle.job.proofs.Answers.{accepted-is, work-answers}
-use Rattle.job.proofs.Opened.{leaves, valid, starts}
+use Rattle.job.proofs.Answers.{accepted-is, is-accepted, work-answers}
+use Rattle.job.proofs.Opened.{opens, run-leaves, starts, valid}
+use Rattle.job.proofs.OnRun.{work-on}
 use Rattle.job.proofs.Merge.{walkSome}
-use Rattle.job.proofs.Phase.{isHome, tookTile, tileBack, phaseClosed, take-changed, putBack-changed, close-changed, work-made, image-whole}
+use Rattle.job.proofs.Phase.{Stage, isHome, tookTile, tileBack, work-made, image-whole}
 use Rattle.job.proofs.Copies.{region-covers}
-use Rattle.job.proofs.Demand3.{planOf, Mid, sharedHere, made-is, image-is, kept, opened}
-use Rattle.finite.specs.Finite.{TileNumbers, RunNumbers, OpenedNumbers, workAt, WorkNumbers, JobNumbers, AlongNumbers, JobRunNumbers}
+use Rattle.job.proofs.Demand3.{stage, taking, putting, closing, take-stage, put-stage, refused-after, planOf, sharedHere, InvOf, Mid, doubles-of, made-is, image-is, kept, first-read, opened}
+use Rattle.finite.specs.Finite.{TileNumbers, RunNumbers, OpenedNumbers, WorkNumbers, JobNumbers, AlongNumbers, JobRunNumbers}
 use Rattle.finite.proofs.Prepared.{steady, initial-is}
 use Rattle.finite.proofs.Runs.{tile-numbers, delta-within, run-walked, run-numbers}
 
@@ -62,32 +66,42 @@ crop-within b k P W l e h w =
 zeros-within : (b k n : ℕ) → AllWithin b k (replicate n f0)
 zeros-within b k n i h = rw (getD-replicate n i f0 nan (subst (λ (m : ℕ). i < m) (length-replicate n f0) h)) (more k (omega arith) (zero-within b))
 
-module _ (O : Opening) (ok : openOf O .status ≡ accepted) where
+module _ (words : List ℕ) (O : Opening) (ok : openRun words O .status ≡ accepted) where
   abbrev I : Input
   I = O .input
 
+  -- the open on the record is accepted too
+  there : openOf O .status ≡ accepted
+  there = opens words O ok
+
   input-ok : judge (inputTests I) ≡ accepted
-  input-ok = valid-iff I .1 (valid O ok .refine .valid)
+  input-ok = valid-iff I .1 (valid O there .refine .valid)
 
   room : length (O .cpp) ≡ 8450
-  room = valid O ok .refine .cpp-length
+  room = valid O there .refine .cpp-length
 
   pub run : RunNumbers I (O .passes) (O .cpp)
-  run = run-numbers I (O .passes) (O .cpp) input-ok room (valid O ok .refine .passes-most)
+  run = run-numbers I (O .passes) (O .cpp) input-ok room (valid O there .refine .passes-most)
 
   g : Steady (sharedHere O)
   unfolding sharedOf
   g = steady I (O .cpp) input-ok room
 
   -- what is carried from call to call, beside demand 3's invariant
-  pub record Held (J : Job) : Type 0 where
-    pub copies : (t : ℕ) → AllWithin cpeExponent (cellTerms behind) (J .last t .cpe)
-    pub deltas : AllWithin costExponent tileVisits (J .deltas)
+  pub record HeldBy (last : ℕ → Pixels) (kept : List Float) : Type 0 where
+    pub copies : (t : ℕ) → AllWithin cpeExponent (cellTerms behind) (last t .cpe)
+    pub deltas : AllWithin costExponent tileVisits kept
 
-  module _ (m : ℕ) (J : Job) (H : Mid O J (phases O m)) where
+  abbrev pub Held : Job → Type 0
+  Held J = HeldBy (J .last) (J .deltas)
+
+  module _ (m : ℕ) (J : Job) (M : Mid O J (phases O m)) where
+    abbrev H : InvOf O (stage J) (phases O m)
+    H = M .inv
+
     walked : Walked (sharedHere O) g (I .indices) walkTileLimit (phases O m .now)
     unfolding g sharedOf
-    walked = run-walked I (O .passes) (O .cpp) input-ok room (valid O ok .refine .passes-most) m
+    walked = run-walked I (O .passes) (O .cpp) input-ok room (valid O there .refine .passes-most) m
 
     abbrev back : ℕ → Bool
     back = isHome (tilingOf I) (phases O m .phase) (J .states)
@@ -97,7 +111,7 @@ module _ (O : Opening) (ok : openOf O .status ≡ accepted) where
     some = some-walked (sharedHere O) g (I .indices) back (tiles (tilingOf I)) (omega arith) walkTileLimit (lit≤ tt) (phases O m .now) walked .cpe
 
     image-within : AllWithin cpeExponent (cellTerms behind) (J .image .cpe)
-    image-within = subst (λ (p : Pixels). AllWithin cpeExponent (cellTerms behind) (p .cpe)) (sym (image-is O ok m J H)) some
+    image-within = subst (λ (p : Pixels). AllWithin cpeExponent (cellTerms behind) (p .cpe)) (sym (image-is words O ok m J M)) some
 
     -- ---- an accepted work call
 
@@ -107,10 +121,21 @@ module _ (O : Opening) (ok : openOf O .status ≡ accepted) where
       indices : length (J .last t .indices) ≡ area (region (p .tiling) t)
       named : Named (J .last t .indices) (p .inks)
 
-    facts : (t : ℕ) (r : JobRecord) → r .plan ≡ planOf O → workOf r t (I .pinned) (openOf O .cpp) (J .last t) (openOf O .inks) .status ≡ accepted → Facts (planOf O) t
-    facts t r e a =
-        let v = work-passes r t (I .pinned) (openOf O .cpp) (J .last t) (openOf O .inks) .0 (work-answers r t (I .pinned) (openOf O .cpp) (J .last t) (openOf O .inks) .accepts .0 a) in
-        subst (λ (p : Plan). Facts p t) e (record { tile-has = v .tile-has; cpe = v .room .cpe-length; indices = v .room .indices-length; named = v .named })
+    -- of a run that open or a call left
+    module _ (t : ℕ) (run : List ℕ) (known : List·Memᴰ run (J .seen)) (a : workOn words O J t run .status ≡ accepted) where
+      planned : decode run .plan ≡ planOf O
+      planned = M .seen run known .planned
+
+      on : workOn words O J t run ≡ workOf (decode run) t (I .pinned) (cppOf I (O .cpp)) (J .last t) (inksOf I)
+      on = rw (run-leaves words O ok) (work-on run (M .seen run known .stands) t (I .pinned) (cppOf I (O .cpp)) (J .last t) (inksOf I))
+
+      on-ok : workOf (decode run) t (I .pinned) (cppOf I (O .cpp)) (J .last t) (inksOf I) .status ≡ accepted
+      on-ok = ap (λ (x : Worked). x .status) (sym on) ∙ a
+
+      facts : Facts (planOf O) t
+      facts =
+          let v = work-passes (decode run) t (I .pinned) (cppOf I (O .cpp)) (J .last t) (inksOf I) .0 (work-answers (decode run) t (I .pinned) (cppOf I (O .cpp)) (J .last t) (inksOf I) .accepts .0 on-ok) in
+          subst (λ (p : Plan). Facts p t) planned (record { tile-has = v .tile-has; cpe = v .room .cpe-length; indices = v .room .indices-length; named = v .named })
 
     module _ (k : Held J) (t : ℕ) (f : Facts (planOf O) t) where
       abbrev W : Rect
@@ -127,19 +152,19 @@ module _ (O : Opening) (ok : openOf O .status ≡ accepted) where
       made-delta = delta-within (sharedHere O) g W behind (lit≤ tt) t (region-covers (tilingOf I) t (f .tile-has)) (J .last t .cpe) (J .last t .indices) (J .last t .indices) sound (k .copies t)
 
     -- what it makes is the refined copy, and what it read is what tiles of this job read
-    works : Held J → (t : ℕ) (r : JobRecord) → List·Memᴰ r (J .seen) → workAt O J t r .status ≡ accepted → WorkNumbers O J t r
-    works k t r s a =
-        let e = H .seen r s in
-        let f = made-numbers k t (facts t r e a) in
-        let o = leaves O ok in
-        let is : workAt O J t r .made ≡ refinedCopy (sharedHere O) t (J .last t) = rw o (work-made (planOf O) (I .pinned) (inksOf I) (cppOf I (O .cpp)) J (phases O m) H t r e (rw o at a)) in
+    works : Held J → (t : ℕ) (run : List ℕ) → List·Memᴰ run (J .seen) → workOn words O J t run .status ≡ accepted → WorkNumbers words O J t run
+    works k t run s a =
+        let e = planned t run s a in
+        let f = made-numbers k t (facts t run s a) in
+        let is : workOn words O J t run .made ≡ refinedCopy (sharedHere O) t (J .last t) =
+            ap (λ (x : Worked). x .made) (on t run s a) ∙ work-made (planOf O) (I .pinned) (inksOf I) (cppOf I (O .cpp)) (stage J) (phases O m) H t (decode run) e (on-ok t run s a) in
         record {
           cpe = rw is (unfold refinedCopy in f .cpe);
           delta = rw is (unfold refinedCopy in f .delta);
-          costs = unfold jobShared in rw (o, e) (f .costs);
+          costs = unfold jobShared in rw (run-leaves words O ok, e) (f .costs);
         }
 
-    pub job-numbers : Held J → JobNumbers O J
+    pub job-numbers : Held J → JobNumbers words O J
     job-numbers k = record {
       cpe = numbers (J .image .cpe) image-within;
       deltas = numbers (J .deltas) (k .deltas);
@@ -151,80 +176,88 @@ module _ (O : Opening) (ok : openOf O .status ≡ accepted) where
 
     -- ---- the calls
 
-    took-held : Held J → (t : ℕ) → Held (tookTile J t)
+    -- what holds of the copies and deltas of a stage
+    from-stage : (K : Job) (q : Stage) → stage K ≡ q → HeldBy (q .last) (q .deltas) → Held K
+    from-stage K q e k = subst (λ (x : Stage). HeldBy (x .last) (x .deltas)) (sym e) k
+
+    took-held : Held J → (t : ℕ) (copy : Pixels) → answer J (taking t copy) ≡ accepted → Held (after J (taking t copy))
     unfolding tookTile
-    took-held k t = record { copies = λ u. go u (eqb u t); deltas = k .deltas }
+    took-held k t copy e = from-stage (after J (taking t copy)) _ (take-stage J (M .stands) t copy e) (record { copies = λ u. go u (eqb u t); deltas = k .deltas })
       where
-        tiling-is : J .rec .plan .tiling ≡ tilingOf I
+        tiling-is : rec J .plan .tiling ≡ tilingOf I
         tiling-is = ap (λ (p : Plan). p .tiling) (H .recorded .planned)
 
-        copied : AllWithin cpeExponent (cellTerms behind) (copyOf (J .rec .plan .tiling) t (J .image) .cpe)
+        copied : AllWithin cpeExponent (cellTerms behind) (copyOf (rec J .plan .tiling) t (J .image) .cpe)
         copied = rw tiling-is (unfold copyOf in
-            crop-within cpeExponent (cellTerms behind) (image (tilingOf I)) (region (tilingOf I) t) (J .image .cpe) (image-whole _ _ _ _ J (phases O m) H .cpe) (region-within (tilingOf I) t) image-within)
+            crop-within cpeExponent (cellTerms behind) (image (tilingOf I)) (region (tilingOf I) t) (J .image .cpe) (image-whole _ _ _ _ (stage J) (phases O m) H .cpe) (region-within (tilingOf I) t) image-within)
 
-        go : (u : ℕ) (b : Bool) → AllWithin cpeExponent (cellTerms behind) (cond b (copyOf (J .rec .plan .tiling) t (J .image)) (J .last u) .cpe)
+        go : (u : ℕ) (b : Bool) → AllWithin cpeExponent (cellTerms behind) (cond b (copyOf (rec J .plan .tiling) t (J .image)) (J .last u) .cpe)
         go u true = copied
         go u false = k .copies u
 
-    back-held : Held J → (t : ℕ) (made : State) → WorkMade O J t made → Held (tileBack J t made)
-    unfolding tileBack
-    back-held k t made b = record {
-      copies = k .copies;
-      deltas = set-within costExponent tileVisits (J .deltas) t (made .progress .delta)
-          (λ h. subst (λ (s : State). Within costExponent tileVisits (s .progress .delta)) (made-is O ok m J H t made b) (made-delta k t (facts t (b .given) (H .seen (b .given) (b .known)) (b .ok)))) (k .deltas);
-    }
+    back-held : Held J → (t : ℕ) (made : State) → WorkMade words O J t made → answer J (putting t made) ≡ accepted → Held (after J (putting t made))
+    unfolding tileBack withProgress
+    back-held k t made b e =
+        let d = doubles-of O m (stage J) H in
+        from-stage (after J (putting t made)) _ (put-stage J (M .stands) t made e (record { initial = d .initial; error = d .error })) (record {
+          copies = k .copies;
+          deltas = set-within costExponent tileVisits (J .deltas) t (made .progress .delta)
+              (λ h. subst (λ (s : State). Within costExponent tileVisits (s .progress .delta)) (made-is words O ok m J M t made b) (made-delta k t (facts t (b .run) (b .known) (b .ok)))) (k .deltas);
+        })
 
-    closed-held : Held J → Held (phaseClosed J)
-    unfolding phaseClosed
+    -- a close changes neither
+    closed-held : Held J → Held (after J closing)
+    unfolding ran
     closed-held k = record { copies = k .copies; deltas = k .deltas }
 
-    next : Held J → (c : Call) → answer (J .rec) c ≡ accepted → Own J c → Brings O J c → Held (changed J c)
-    unfolding Own Brings answer
-    next k (takeCall t image states copy) e q b =
-        let z : takeCall t image states copy ≡ takeCall t (J .image) (J .states) copy = rw (q .0, q .1) in
-        subst (λ c. Held (changed J c)) (sym z) (rw (take-changed J t copy (subst (λ c. answer (J .rec) c ≡ accepted) z e)) (took-held k t))
-    next k (putBack t image states deltas made) e q b =
-        let z : putBack t image states deltas made ≡ putBack t (J .image) (J .states) (J .deltas) made = rw (q .0, q .1, q .2) in
-        subst (λ c. Held (changed J c)) (sym z) (rw (putBack-changed J t made (subst (λ c. answer (J .rec) c ≡ accepted) z e)) (back-held k t made b))
+    next : Held J → (c : Call) → answer J c ≡ accepted → Own c → Brings words O J c → Held (after J c)
+    unfolding Own Brings
+    next k (takeCall t indices cpe states copy) e q b =
+        let z : takeCall t indices cpe states copy ≡ taking t copy = rw (q .0, q .1, q .2) in
+        subst (λ c. Held (after J c)) (sym z) (took-held k t copy (subst (λ c. answer J c ≡ accepted) z e))
+    next k (putBack t indices cpe states deltas made) e q b =
+        let z : putBack t indices cpe states deltas made ≡ putting t made = rw (q .0, q .1, q .2, q .3) in
+        subst (λ c. Held (after J c)) (sym z) (back-held k t made b (subst (λ c. answer J c ≡ accepted) z e))
     next k (close counts states deltas) e q b =
-        let z : close counts states deltas ≡ close (J .counts) (J .states) (J .deltas) = rw (q .0, q .1, q .2) in
-        subst (λ c. Held (changed J c)) (sym z) (rw (close-changed J (subst (λ c. answer (J .rec) c ≡ accepted) z e)) (closed-held k))
+        let z : close counts states deltas ≡ closing = rw (q .0, q .1, q .2) in
+        subst (λ c. Held (after J c)) (sym z) (closed-held k)
 
-    held : Held J → (c : Call) → (answer (J .rec) c ≡ accepted → Own J c × Brings O J c) → Held (after J c)
-    unfolding after refused
-    held k c f = go (isAccepted (answer (J .rec) c)) refl
+    held : Held J → (c : Call) → (answer J c ≡ accepted → Own c × Brings words O J c) → Held (after J c)
+    held k c f = go (isAccepted (answer J c)) refl
       where
-        go : (b : Bool) → isAccepted (answer (J .rec) c) ≡ b → Held (after J c)
-        go true e = let a = accepted-is (answer (J .rec) c) e in rw e (next k c a (f a .0) (f a .1))
-        go false e = rw e (record { copies = k .copies; deltas = k .deltas })
+        go : (b : Bool) → isAccepted (answer J c) ≡ b → Held (after J c)
+        go true e = let a = accepted-is (answer J c) e in next k c a (f a .0) (f a .1)
+        go false e =
+            let no-way : answer J c ≢ accepted = λ a. true≢false (sym is-accepted ∙ ap isAccepted (sym a) ∙ e) in
+            subst Held (sym (refused-after J c no-way)) (record { copies = k .copies; deltas = k .deltas })
 
   -- ---- the whole list
 
-  along : (cs : List Call) (m : ℕ) (J : Job) → Mid O J (phases O m) → Held J → Fair O J cs → AlongNumbers O J cs
+  along : (cs : List Call) (m : ℕ) (J : Job) → Mid O J (phases O m) → Held J → Fair words O J cs → AlongNumbers words O J cs
   unfolding AlongNumbers Fair
-  along [] m J H k f = tt
-  along (c ∷ cs) m J H k f =
-      let n = kept O ok m J H c (f .0) in
-      let h = held m J H k c (f .0) in
+  along [] m J M k f = tt
+  along (c ∷ cs) m J M k f =
+      let n = kept words O ok m J M c (f .0) in
+      let h = held m J M k c (f .0) in
       (job-numbers (closesAfter m J c) (after J c) (n .0) h, along cs (closesAfter m J c) (after J c) (n .0) h (f .1))
 
-  start-held : Held (start O)
-  start-held = rw (starts O ok) (record { copies = λ t i h. absurd (omega arith); deltas = zeros-within costExponent tileVisits (tiles (tilingOf I)) })
+  start-held : Held (start words O)
+  start-held = rw (starts words O ok) (record { copies = λ t i h. absurd (omega arith); deltas = zeros-within costExponent tileVisits (tiles (tilingOf I)) })
 
-  left : OpenedNumbers I (openOf O)
+  left : OpenedNumbers I (openRun words O)
   unfolding firstRecord
   left =
-      rw (leaves O ok) (record {
+      rw (run-leaves words O ok) (record {
         buffers = record { field = run .prepared .field; kernels = run .prepared .kernels; values = run .prepared .inks };
         deltas = numbers (replicate (tiles (tilingOf I)) f0) (zeros-within 0 1 (tiles (tilingOf I)));
-        initial = run .prepared .initial;
-        error = run .prepared .initial;
+        initial = rw (first-read words O ok) (run .prepared .initial);
+        error = rw (first-read words O ok) (run .prepared .initial);
       })
 
-  pub job-run : JobRunNumbers O
+  pub job-run : JobRunNumbers words O
   job-run = record {
     run = run;
     left = left;
-    opened = job-numbers 0 (start O) (opened O ok) start-held;
-    calls = λ cs f. along cs 0 (start O) (opened O ok) start-held f;
+    opened = job-numbers 0 (start words O) (opened words O ok) start-held;
+    calls = λ cs f. along cs 0 (start words O) (opened words O ok) start-held f;
   }

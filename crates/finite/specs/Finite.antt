@@ -28,12 +28,12 @@ use Rattle.input.specs.Input.{Input}
 use Rattle.prepare.specs.Prepare.{tilingOf, inksOf, cppOf, sceneOf, cpeOf, errorOf, sharedOf, runOne}
 use Rattle.refine.specs.Refine.{Refinement, refineOf}
 use Rattle.perceived.specs.Perceived.{measureOf}
-use Rattle.job.specs.declared.JobRecord.{JobRecord}
 use Rattle.job.specs.Record.{jobShared}
-use Rattle.job.specs.Open.{Opening, Opened, openOf}
-use Rattle.job.specs.Work.{Worked, workOf}
-use Rattle.job.specs.Runs.{Call, Job, start, after}
-use Rattle.job.specs.Claim.{Fair}
+use Rattle.job.specs.Words.{decode}
+use Rattle.job.specs.Open.{Opening}
+use Rattle.job.specs.Boundary.{OpenedRun, openRun}
+use Rattle.job.specs.Runs.{Call, Job, rec, start, after}
+use Rattle.job.specs.Claim.{workOn, Fair}
 
 -- ---- up to the walk
 
@@ -104,43 +104,40 @@ pub record MeasuredNumbers (I : Input) : Type 0 where
 -- ---- the job
 
 -- what an open leaves
-pub record OpenedNumbers (I : Input) (a : Opened) : Type 0 where
+pub record OpenedNumbers (I : Input) (a : OpenedRun) : Type 0 where
   pub buffers : BufferNumbers I (a .cpe) (a .cpp) (a .inks)
   pub deltas : Numbers (a .deltas)
-  pub initial : Number (a .rec .plan .initial)
-  pub error : Number (a .rec .error)
+  pub initial : Number (decode (a .words) .plan .initial)
+  pub error : Number (decode (a .words) .error)
 
--- what a work call makes of the copy that tile t's last take gave, and the costs that it weighs
-abbrev pub workAt : Opening → Job → ℕ → JobRecord → Worked
-workAt O J t r = workOf r t (O .input .pinned) (openOf O .cpp) (J .last t) (openOf O .inks)
-
-pub record WorkNumbers (O : Opening) (J : Job) (t : ℕ) (r : JobRecord) : Type 0 where
-  pub cpe : Numbers (workAt O J t r .made .cpe)
-  pub delta : Number (workAt O J t r .made .progress .delta)
-  pub costs : (x y : ℕ) → Inside (tile (r .plan .tiling) t) x y →
-      let S = jobShared r (O .input .pinned) (openOf O .inks) (openOf O .cpp) in
+-- what a work call, given a run, makes of the copy that tile t's last take gave, and the costs that it weighs
+pub record WorkNumbers (words : List ℕ) (O : Opening) (J : Job) (t : ℕ) (run : List ℕ) : Type 0 where
+  pub cpe : Numbers (workOn words O J t run .made .cpe)
+  pub delta : Number (workOn words O J t run .made .progress .delta)
+  pub costs : let r = decode run in (x y : ℕ) → Inside (tile (r .plan .tiling) t) x y →
+      let S = jobShared r (O .input .pinned) (openRun words O .inks) (openRun words O .cpp) in
       let W = region (r .plan .tiling) t in
       Weighed S W x y (comesTo S W (tile (r .plan .tiling) t) x y (state (J .last t .cpe) (J .last t .indices) noProgress))
 
-pub record JobNumbers (O : Opening) (J : Job) : Type 0 where
+pub record JobNumbers (words : List ℕ) (O : Opening) (J : Job) : Type 0 where
   pub cpe : Numbers (J .image .cpe)
   pub deltas : Numbers (J .deltas)
-  pub error : Number (J .rec .error)
-  pub initial : Number (J .rec .plan .initial)
+  pub error : Number (rec J .error)
+  pub initial : Number (rec J .plan .initial)
   pub copies : (t : ℕ) → Numbers (J .last t .cpe)
-  -- by an accepted work call that is given a record which open or a call returned
-  pub works : (t : ℕ) (r : JobRecord) → List·Memᴰ r (J .seen) → workAt O J t r .status ≡ accepted → WorkNumbers O J t r
+  -- by an accepted work call that is given a run which open or a call left
+  pub works : (t : ℕ) (run : List ℕ) → List·Memᴰ run (J .seen) → workOn words O J t run .status ≡ accepted → WorkNumbers words O J t run
 
 -- after each call of the list
-unfoldable pub AlongNumbers : Opening → Job → List Call → Type 0
-AlongNumbers O J [] = Unit
-AlongNumbers O J (c ∷ cs) = JobNumbers O (after J c) × AlongNumbers O (after J c) cs
+unfoldable pub AlongNumbers : List ℕ → Opening → Job → List Call → Type 0
+AlongNumbers words O J [] = Unit
+AlongNumbers words O J (c ∷ cs) = JobNumbers words O (after J c) × AlongNumbers words O (after J c) cs
 
-pub record JobRunNumbers (O : Opening) : Type 0 where
+pub record JobRunNumbers (words : List ℕ) (O : Opening) : Type 0 where
   pub run : RunNumbers (O .input) (O .passes) (O .cpp)
-  pub left : OpenedNumbers (O .input) (openOf O)
-  pub opened : JobNumbers O (start O)
-  pub calls : (cs : List Call) → Fair O (start O) cs → AlongNumbers O (start O) cs
+  pub left : OpenedNumbers (O .input) (openRun words O)
+  pub opened : JobNumbers words O (start words O)
+  pub calls : (cs : List Call) → Fair words O (start words O) cs → AlongNumbers words O (start words O) cs
 
 -- ---- THE STATEMENT
 
@@ -148,4 +145,4 @@ pub record Finiteness : Type 0 where
   pub refines : (I : Input) (passes : ℕ) (cpe cpp : List Float) (counts : List ℕ) (inks : List Float) → refineOf I passes cpe cpp counts inks .stats .number ≡ 0 →
       RunNumbers I passes cpp × RefinedNumbers I (refineOf I passes cpe cpp counts inks)
   pub measures : (I : Input) → measureOf I .number ≡ 0 → MeasuredNumbers I
-  pub jobs : (O : Opening) → openOf O .status ≡ accepted → JobRunNumbers O
+  pub jobs : (words : List ℕ) (O : Opening) → openRun words O .status ≡ accepted → JobRunNumbers words O

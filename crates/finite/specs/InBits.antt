@@ -15,12 +15,11 @@ use Rattle.input.specs.Input.{Input}
 use Rattle.prepare.specs.Prepare.{tilingOf}
 use Rattle.refine.specs.Refine.{Refinement, refineOf}
 use Rattle.perceived.specs.Perceived.{measureOf}
-use Rattle.job.specs.declared.JobRecord.{JobRecord}
 use Rattle.job.specs.Words.{encode, rewritten}
-use Rattle.job.specs.Open.{Opening, openOf}
-use Rattle.job.specs.Runs.{Call, Job, start, answer, after, isClose, closesAfter}
-use Rattle.job.specs.Claim.{Fair, phases}
-use Rattle.finite.specs.Finite.{workAt}
+use Rattle.job.specs.Open.{Opening}
+use Rattle.job.specs.Boundary.{openRun}
+use Rattle.job.specs.Runs.{Call, Job, rec, start, answer, after, isClose, closesAfter}
+use Rattle.job.specs.Claim.{workOn, Fair, phases}
 
 abbrev pub AllOneBits : List Float → Type 0
 AllOneBits l = (i : ℕ) → i < length l → OneBits (getD l i nan)
@@ -44,31 +43,31 @@ pub record RefinedBits (I : Input) (R : Refinement) : Type 0 where
 -- both runs: 'every bit of the field', 'every bit of the error'
 pub record SameInBits (J : Job) (w : Walk) : Type 0 where
   pub cpe : SameBitsAll (J .image .cpe) (w .now .cpe)
-  pub error : SameBits (J .rec .error) (w .now .run .error)
+  pub error : SameBits (rec J .error) (w .now .run .error)
 
--- a job's own floats have one pattern each, and the run of 12 numbers that a call writes does not depend on what stood there
-pub record JobBits (O : Opening) (J : Job) : Type 0 where
+-- a job's own floats have one pattern each, and its run is the one pattern of its record: it does not depend on what the run held before
+pub record JobBits (words : List ℕ) (O : Opening) (J : Job) : Type 0 where
   pub cpe : AllOneBits (J .image .cpe)
   pub deltas : AllOneBits (J .deltas)
-  pub initial : OneBits (J .rec .plan .initial)
-  pub error : OneBits (J .rec .error)
+  pub initial : OneBits (rec J .plan .initial)
+  pub error : OneBits (rec J .error)
   pub copies : (t : ℕ) → AllOneBits (J .last t .cpe)
   -- 'Copies are compared by their values, their floats and the delta by bits': what work makes
-  pub works : (t : ℕ) (r : JobRecord) → List·Memᴰ r (J .seen) → workAt O J t r .status ≡ accepted →
-      AllOneBits (workAt O J t r .made .cpe) × OneBits (workAt O J t r .made .progress .delta)
-  pub words : (old : List ℕ) → rewritten old (J .rec) ≡ encode (J .rec)
+  pub works : (t : ℕ) (run : List ℕ) → List·Memᴰ run (J .seen) → workOn words O J t run .status ≡ accepted →
+      AllOneBits (workOn words O J t run .made .cpe) × OneBits (workOn words O J t run .made .progress .delta)
+  pub run : (old : List ℕ) → rewritten old (rec J) ≡ encode (rec J)
 
-unfoldable pub AlongBits : Opening → ℕ → Job → List Call → Type 0
-AlongBits O m J [] = Unit
-AlongBits O m J (c ∷ cs) =
-    JobBits O (after J c)
-    × (answer (J .rec) c ≡ accepted → isClose c ≡ true → SameInBits (after J c) (phases O (suc m)))
-    × AlongBits O (closesAfter m J c) (after J c) cs
+unfoldable pub AlongBits : List ℕ → Opening → ℕ → Job → List Call → Type 0
+AlongBits words O m J [] = Unit
+AlongBits words O m J (c ∷ cs) =
+    JobBits words O (after J c)
+    × (answer J c ≡ accepted → isClose c ≡ true → SameInBits (after J c) (phases O (suc m)))
+    × AlongBits words O (closesAfter m J c) (after J c) cs
 
 pub record InBits : Type 0 where
   pub refines : (I : Input) (passes : ℕ) (cpe cpp : List Float) (counts : List ℕ) (inks : List Float) → refineOf I passes cpe cpp counts inks .stats .number ≡ 0 →
       RefinedBits I (refineOf I passes cpe cpp counts inks)
   pub measures : (I : Input) → measureOf I .number ≡ 0 → OneBits (measureOf I .error)
-  pub opening : (O : Opening) → openOf O .status ≡ accepted →
-      BufferBits (O .input) (openOf O .cpe) (openOf O .cpp) (openOf O .inks) × JobBits O (start O) × SameInBits (start O) (phases O 0)
-  pub calls : (O : Opening) → openOf O .status ≡ accepted → (cs : List Call) → Fair O (start O) cs → AlongBits O 0 (start O) cs
+  pub opening : (words : List ℕ) (O : Opening) → openRun words O .status ≡ accepted →
+      BufferBits (O .input) (openRun words O .cpe) (openRun words O .cpp) (openRun words O .inks) × JobBits words O (start words O) × SameInBits (start words O) (phases O 0)
+  pub calls : (words : List ℕ) (O : Opening) → openRun words O .status ≡ accepted → (cs : List Call) → Fair words O (start words O) cs → AlongBits words O 0 (start words O) cs

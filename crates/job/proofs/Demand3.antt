@@ -394,7 +394,7 @@ module _ (words : List ℕ) (O : Opening) where
     unfolding runOne walkAt upTo walkStart firstRecord stored
     first-same = record { indices = refl; cpe = refl; stores = refl; done = refl; accepted = refl; error = refl; ended = refl }
 
-    first-read : decode (encode (firstRecord O)) ≡ firstRecord O
+    pub first-read : decode (encode (firstRecord O)) ≡ firstRecord O
     unfolding firstRecord
     first-read = encoded (firstRecord O) (record { initial = initial-fine O; error = initial-fine O })
 
