@@ -1,3 +1,4 @@
+-- A SHAPE FOR SPEED: nothing that a reader has to believe.
 -- Rows of sums that grow by a row of values, correlated with a row of a kernel. The code adds the terms of many sums side by side;
 -- these definitions say of each sum which terms it takes and in which order, which is that of dbs.rs.
 use mathlib.Core.Path.{_≡_}

@@ -1,3 +1,4 @@
+-- A SHAPE FOR SPEED: nothing that a reader has to believe.
 -- How the code works out `correlate`, row by row of the error: what its inner functions promise. Error has the definitions that these come to.
 use mathlib.Core.Path.{_≡_}
 use mathlib.Core.List.{List}

@@ -157,7 +157,7 @@ module _ (words : List ℕ) (O : Opening) (ok : openRun words O .status ≡ acce
         let e = planned t run s a in
         let f = made-numbers k t (facts t run s a) in
         let is : workOn words O J t run .made ≡ refinedCopy (sharedHere O) t (J .last t) =
-            ap (λ (x : Worked). x .made) (on t run s a) ∙ work-made (planOf O) (I .pinned) (inksOf I) (cppOf I (O .cpp)) (stage J) (phases O m) H t (decode run) e (on-ok t run s a) in
+        ap (λ (x : Worked). x .made) (on t run s a) ∙ work-made (planOf O) (I .pinned) (inksOf I) (cppOf I (O .cpp)) (stage J) (phases O m) H t (decode run) e (on-ok t run s a) in
         record {
           cpe = rw is (unfold refinedCopy in f .cpe);
           delta = rw is (unfold refinedCopy in f .delta);

@@ -13,8 +13,8 @@ use Rattle.base.specs.Grid.{area}
 use Rattle.base.specs.Refusal.{accepted}
 use Rattle.base.proofs.LoopLaws.{upTo-ind}
 use Rattle.tiling.specs.declared.Tiling.{Tiling}
-use Rattle.tiling.specs.Tiling.{image, tile, region, tiles, inPhase}
-use Rattle.tiling.proofs.TilingLaws.{phaseOf, one-phase, tiles-area}
+use Rattle.tiling.specs.Tiling.{image, tile, region, tiles, inPhase, phaseOf}
+use Rattle.tiling.proofs.TilingLaws.{one-phase, tiles-area}
 use Rattle.search.specs.Shared.{Shared}
 use Rattle.tile.specs.Tile.{state, refineTile, noProgress}
 use Rattle.tile.proofs.Keeps.{tile-count, unpinned-le}

@@ -71,8 +71,16 @@ refused-after J (takeCall t indices cpe states copy) n =
     rw (not-accepted _ n, ap (λ (a : Taken). a .states) k, untouched (J .states) states)
 refused-after J (putBack t indices cpe states deltas made) n =
     let k = put-kept (J .words) t (lentImage J indices cpe) (given (J .states) states) (given (J .deltas) deltas) made n in
-    rw (ap (λ (a : PutBackRun). a .words) k, ap (λ (a : PutBackRun). a .image) k, ap (λ (a : PutBackRun). a .states) k, ap (λ (a : PutBackRun). a .deltas) k,
-        untouched (J .image .cpe) cpe, untouched (J .image .indices) indices, untouched (J .states) states, untouched (J .deltas) deltas)
+    rw (
+      ap (λ (a : PutBackRun). a .words) k,
+      ap (λ (a : PutBackRun). a .image) k,
+      ap (λ (a : PutBackRun). a .states) k,
+      ap (λ (a : PutBackRun). a .deltas) k,
+      untouched (J .image .cpe) cpe,
+      untouched (J .image .indices) indices,
+      untouched (J .states) states,
+      untouched (J .deltas) deltas,
+    )
 refused-after J (close counts states deltas) n =
     let k = close-kept (J .words) (given (J .counts) counts) (given (J .states) states) (given (J .deltas) deltas) n in
     rw (ap (λ (a : ClosedRun). a .words) k, ap (λ (a : ClosedRun). a .counts) k, ap (λ (a : ClosedRun). a .states) k, untouched (J .counts) counts, untouched (J .states) states)
@@ -155,8 +163,11 @@ module _ (J : Job) (s : Stands (J .words)) where
       pub put-stage : Doubles (withProgress (rec J) (made .progress)) → stage (after J (putting t made)) ≡ tileBack (stage J) t made
       unfolding ran tileBack putBackOver
       put-stage d =
-          rw (put-on (J .words) s t (J .image) (J .states) (J .deltas) made, putBack-answers (rec J) t (J .image) (J .states) (J .deltas) made .leaves (sym put-status ∙ e),
-              rewrites (withProgress (rec J) (made .progress)) d)
+          rw (
+            put-on (J .words) s t (J .image) (J .states) (J .deltas) made,
+            putBack-answers (rec J) t (J .image) (J .states) (J .deltas) made .leaves (sym put-status ∙ e),
+            rewrites (withProgress (rec J) (made .progress)) d,
+          )
 
   pub close-status : answer J closing ≡ closeOf (rec J) (J .counts) (J .states) (J .deltas) .status
   unfolding ran closedOver
@@ -173,8 +184,11 @@ module _ (J : Job) (s : Stands (J .words)) where
     pub close-stage : Doubles (nextRecord (rec J) (J .deltas)) → stage (after J closing) ≡ phaseClosed (stage J)
     unfolding ran phaseClosed closedOver
     close-stage d =
-        rw (close-on (J .words) s (J .counts) (J .states) (J .deltas), close-answers (rec J) (J .counts) (J .states) (J .deltas) .leaves (sym close-status ∙ e),
-            rewrites (nextRecord (rec J) (J .deltas)) d)
+        rw (
+          close-on (J .words) s (J .counts) (J .states) (J .deltas),
+          close-answers (rec J) (J .counts) (J .states) (J .deltas) .leaves (sym close-status ∙ e),
+          rewrites (nextRecord (rec J) (J .deltas)) d,
+        )
 
 -- ---- the invariant
 
@@ -256,9 +270,10 @@ module _ (words : List ℕ) (O : Opening) where
           let k : InvOf O (phaseClosed (stage J)) (phases O (suc m)) = rw (phases-more m) (close-keeps (planOf O) (I .pinned) (inksOf I) (cppOf I (O .cpp)) (stage J) w (H .inv) v) in
           let same : Same (phaseClosed (stage J) .rec) (phaseClosed (stage J) .image) (phaseClosed (stage J) .counts) (phases O (suc m)) = rw (phases-more m) (close-same (planOf O) (I .pinned) (inksOf I) (cppOf I (O .cpp)) (stage J) w (H .inv) v) in
           let d : Doubles (nextRecord (rec J) (J .deltas)) = doubles-of O (suc m) (phaseClosed (stage J)) k in
-          let there = sym (close-stage J (H .stands) e d) in
-          (next-mid O J (after J closing) w (phases O (suc m)) H (seen-more J closing) (close-stands J (H .stands) e) (subst (λ (q : Stage). InvOf O q (phases O (suc m))) there k),
-           subst (λ (q : Stage). Same (q .rec) (q .image) (q .counts) (phases O (suc m))) there same)
+          let there = sym (close-stage J (H .stands) e d) in (
+            next-mid O J (after J closing) w (phases O (suc m)) H (seen-more J closing) (close-stands J (H .stands) e) (subst (λ (q : Stage). InvOf O q (phases O (suc m))) there k),
+            subst (λ (q : Stage). Same (q .rec) (q .image) (q .counts) (phases O (suc m))) there same,
+          )
 
       -- an accepted call
       abbrev Next : Call → Type 0

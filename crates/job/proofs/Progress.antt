@@ -17,8 +17,7 @@ use Rattle.base.specs.Grid.{area}
 use Rattle.base.specs.Refusal.{accepted, isAccepted}
 use Rattle.base.proofs.GridLaws.{length-crop}
 use Rattle.tiling.specs.declared.Tiling.{Tiling}
-use Rattle.tiling.specs.Tiling.{image, tiles, tile, region, inPhase}
-use Rattle.tiling.proofs.TilingLaws.{phaseOf}
+use Rattle.tiling.specs.Tiling.{image, tiles, tile, region, inPhase, phaseOf}
 use Rattle.search.specs.Shared.{Named}
 use Rattle.input.specs.Input.{Input, inkCount}
 use Rattle.prepare.proofs.Laws.{image-area}

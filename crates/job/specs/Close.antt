@@ -50,7 +50,7 @@ closeTests r counts states deltas =
 unfoldable pub withDeltas : Tiling → ℕ → List Float → ℕ → Float → Float
 withDeltas T phase deltas n e = upTo (λ t e. let more = e +f getD deltas t nan in cond (inPhase T phase t) more e) n e
 
--- the tiles of a phase waiting, each other tile as it was
+-- the tiles of a phase waiting, each other tile as it was; each of them has a state
 unfoldable pub released : Tiling → ℕ → List ℕ → List ℕ
 released T phase states = table (tiles T) (λ t. let old = getD states t 0 in cond (inPhase T phase t) 0 old)
 

@@ -13,8 +13,7 @@ use lib.Ieee.{Float, binary64, fits, ofBits}
 use Rattle.base.specs.Grid.{area}
 use Rattle.base.specs.Loop.{upTo}
 use Rattle.base.specs.Refusal.{accepted}
-use Rattle.tiling.specs.Tiling.{tiles, tile}
-use Rattle.tiling.proofs.TilingLaws.{phaseOf}
+use Rattle.tiling.specs.Tiling.{tiles, phaseOf, tile}
 use Rattle.refine.specs.Refine.{Refinement, refineOf}
 use Rattle.job.specs.declared.JobRecord.{JobRecord}
 use Rattle.job.specs.Record.{pixelsOf, stored}

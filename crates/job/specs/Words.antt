@@ -15,6 +15,7 @@ unfoldable pub runTest : List ℕ → Test
 runTest words = test (not (eqb (length words) 12)) 12 0
 
 -- what a call that reads the record tests of its run: a finished word that is neither 1 nor 0 is outside its limits
+-- (of a shorter run, which the first test refuses, it is not asked)
 unfoldable pub wordsTests : List ℕ → List Test
 wordsTests words = runTest words ∷ test (ltb 1 (getD words 11 0)) 12 0 ∷ []
 
@@ -58,6 +59,6 @@ encode r = wordsWith (toBits binary64 (r .plan .initial)) (toBits binary64 (r .e
 unfoldable pub wordOver : ℕ → Float → ℕ
 wordOver old x = cond (isNan x && nanBits binary64 old) old (toBits binary64 x)
 
--- the run after a call that was given this run and returned r
+-- the run after a call that was given this run, of 12 numbers, and returned r
 unfoldable pub rewritten : List ℕ → JobRecord → List ℕ
 rewritten words r = wordsWith (wordOver (getD words 9 0) (r .plan .initial)) (wordOver (getD words 10 0) (r .error)) r

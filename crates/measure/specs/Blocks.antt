@@ -1,3 +1,4 @@
+-- A SHAPE FOR SPEED: nothing that a reader has to believe.
 -- How the code measures, block by block of the blurred error: what its inner functions promise. Measure has the definitions that these come to.
 use mathlib.Core.Path.{_≡_}
 use mathlib.Core.List.{List}

@@ -1,3 +1,4 @@
+-- A SHAPE FOR SPEED: nothing that a reader has to believe.
 -- The shapes that the code has for speed: a move as a number, and the neighbours of a pixel amid the image by steps. proofs/FastLaws.antt
 -- says that they give what Search.antt defines; no contract of another crate's answer cites them.
 use mathlib.Core.Path.{_≡_}

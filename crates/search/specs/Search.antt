@@ -9,7 +9,7 @@ use lib.Dec.{eqb}
 use lib.Ieee.{Float, nan, lt, neg}
 use Rattle.base.specs.declared.Rect.{Rect}
 use Rattle.base.specs.Loop.{upTo}
-use Rattle.base.specs.F64.{_+f_, _-f_, _*f_, f64, f0, f2}
+use Rattle.base.specs.F64.{_+f_, _-f_, _*f_, f0, f2}
 use Rattle.color.specs.declared.YyCxCz.{YyCxCz}
 use Rattle.neighbour.specs.declared.Adjacent.{Adjacent}
 use Rattle.neighbour.specs.declared.Adjacent.the-variants.{Pixel, Outside}
@@ -22,6 +22,7 @@ use Rattle.search.specs.declared.Best.{Best}
 use Rattle.search.specs.declared.Site.{Site}
 use Rattle.search.specs.declared.Move.{Move}
 use Rattle.search.specs.declared.Move.the-variants.{Stay, Toggle, Swap}
+use Rattle.color.specs.Decimal.{decimal}
 use Rattle.color.specs.Values.{valuesAt, lessOf}
 use Rattle.search.specs.Shared.{Shared, inkAt, cpeAt, indexAt}
 
@@ -78,9 +79,9 @@ swapCost g a c cn =
 abbrev pub betterOf : Best → Float → Move → Best
 betterOf b cost mv = cond (lt cost (b .cost)) (record { cost = cost; mv = mv }) b
 
--- 'The best starts at −1e-9'
+-- 'The best starts at −1e-9': 1 / 1,000,000,000 rounded to an f64, negated
 abbrev pub noMove : Best
-noMove = record { cost = neg (f64 0x3e112e0be826d695); mv = Stay }
+noMove = record { cost = neg (decimal 1 1000000000); mv = Stay }
 
 -- ---- the pixel (x, y), of ink k
 

@@ -17,7 +17,7 @@ use Rattle.cpp.specs.declared.Kernel2D.{Kernel2D}
 use Rattle.cpp.specs.Kernel.{lumKernel, chromaKernel, kernelPlace, kernelAt}
 use Rattle.sweep.specs.declared.Span.{Span}
 
--- value j of a list grows by v
+-- value j of a list grows by v; the list has it, as a pixel of the window has its values
 unfoldable pub grow : ℕ → Float → List Float → List Float
 grow j v f = set f j (getD f j nan +f v)
 
@@ -26,7 +26,7 @@ unfoldable pub addAt : Channels → YyCxCz → Float → ℕ → List Float → 
 addAt Luminance a v j f = grow j (a .yy *f v) f
 addAt Chrominance a v j f = grow (j + 2) (a .cz *f v) (grow (j + 1) (a .cx *f v) f)
 
--- the first n pixels of a row grow by a times the first n values of a row of the kernel
+-- the first n pixels of a row grow by a times the first n values of a row of the kernel, which has them
 unfoldable pub addPixels : Channels → YyCxCz → List Float → ℕ → List Float → List Float
 addPixels channels a kernel n f = upTo (λ i. addAt channels a (getD kernel i nan) (3 * i)) n f
 

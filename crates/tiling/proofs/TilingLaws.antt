@@ -14,7 +14,7 @@ use Rattle.base.proofs.Bounds.{index-lt}
 use Rattle.base.proofs.LoopLaws.{upTo-same}
 use Rattle.base.proofs.GridLaws.{inside-is, Apart}
 use Rattle.tiling.specs.declared.Tiling.{Tiling}
-use Rattle.tiling.specs.Tiling.{image, radius, margin, side, columns, rows, tiles, tileX, tileY, inPhase, tile, region, Room}
+use Rattle.tiling.specs.Tiling.{image, radius, margin, side, columns, rows, tiles, tileX, tileY, inPhase, phaseOf, tile, region, Room}
 use Rattle.tiling.proofs.Axis.{starts, holder-below, holder-from, holder-to, holder-only, room-before, room-after, same-tile, lengths-sum}
 use Rattle.tiling.proofs.Sums.{upTo-rows, sum-scale}
 
@@ -169,10 +169,6 @@ unfolding inPhase
 phase-is T p t h =
     let e = both (eqb (tileX T t % 2) (p % 2)) (eqb (tileY T t % 2) (p / 2)) h in
     (eqb-true _ _ (e .0), eqb-true _ _ (e .1))
-
--- the phase of a tile
-unfoldable pub phaseOf : Tiling → ℕ → ℕ
-phaseOf T t = tileY T t % 2 * 2 + tileX T t % 2
 
 -- each tile is in a phase of 0 to 3, and in no other
 pub one-phase : (T : Tiling) (t : ℕ) → (phaseOf T t < 4) × (inPhase T (phaseOf T t) t ≡ true) × ((p : ℕ) → inPhase T p t ≡ true → p ≡ phaseOf T t)

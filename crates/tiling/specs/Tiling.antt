@@ -50,6 +50,10 @@ tileY T t = t / columns T
 unfoldable pub inPhase : Tiling → ℕ → ℕ → Bool
 inPhase T p t = eqb (tileX T t % 2) (p % 2) && eqb (tileY T t % 2) (p / 2)
 
+-- the phase, 0 to 3, in which a tile has its turn
+unfoldable pub phaseOf : Tiling → ℕ → ℕ
+phaseOf T t = tileY T t % 2 * 2 + tileX T t % 2
+
 -- the pixels of tile number t, a square of the side cut at the image: the `Rect` of `tiles` in dbs.rs
 unfoldable pub tile : Tiling → ℕ → Rect
 tile T t = record {

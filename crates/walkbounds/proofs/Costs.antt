@@ -6,7 +6,7 @@ use mathlib.Core.Bool.{Bool, true, false, cond}
 use mathlib.Core.List.{List}
 use lib.Dec.{lit≤, lit<, eqb}
 use lib.ListN.{length}
-use lib.Ieee.{Float, nan, neg, lt, fits, ofBits}
+use lib.Ieee.{Float, nan, neg, lt, fits, ofBits, round}
 use Rattle.base.specs.declared.Rect.{Rect}
 use Rattle.base.specs.Grid.{area, Inside, place, cell}
 use Rattle.base.specs.F64.{f2, _-f_}
@@ -84,7 +84,7 @@ unfolding swapCost
 swap-cost g a c n = total-within (swap-term (g .yy) (a .yy) (c .yy) (n .yy)) (swap-term (g .cx) (a .cx) (c .cx) (n .cx)) (swap-term (g .cz) (a .cz) (c .cz) (n .cz))
 
 pub none-within : Within costExponent 1 (noMove .cost)
-unfolding ofBits neg fits
+unfolding round neg fits
 none-within = record { sized = lit≤ tt; fits = tt }
 
 -- ---- the kernels at their centre and next to it

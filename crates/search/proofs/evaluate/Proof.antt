@@ -5,7 +5,7 @@ use native.Mathlib.Omega.{arith}
 use borrow.Author.Needs.{needs}
 use Rattle.base.specs.Grid.{Inside}
 use Rattle.search.specs.Search.{noMove, toggles, evaluateOf}
-use lib.Ieee.{neg}
+use lib.Ieee.{neg, ofBits, round}
 use Rattle.base.specs.F64.{f64}
 use Rattle.search.specs.declared.Best.{Best}
 use Rattle.search.specs.declared.Choice.{Choice}
@@ -19,7 +19,7 @@ unfolding bestOf
 best-is b = refl
 
 start-is : bestOf (record { cost = neg (f64 0x3e112e0be826d695); pick = 264 }) ≡ noMove
-unfolding bestOf moveOf
+unfolding bestOf moveOf ofBits round
 start-is = refl
 
 inside : (s : tie.Start) → Inside (s .args .w) (s .args .x) (s .args .y)
