@@ -14,8 +14,8 @@ use Rattle.base.proofs.Meanings.{Means, denied, holds, lt, gt, ne, not-and, not
 use Rattle.base.proofs.RowLaws.{Decides, decided, at-lowest, no-row, told, tells, Rises, by-lines, at-0}
 use Rattle.eye.specs.declared.DbsParams.{DbsParams}
 use Rattle.eye.specs.Eye.{eyeTests}
-use Rattle.input.specs.Input.{Input, input, pixelCount, inkCount, paletteFits, firstUnnamed, imageTests, inkTests, inputTests, runTests, refineRunTests, openRunTests, refineTests, openTests}
-use Rattle.input.specs.Rows.{row4, row6, row7, row8, row9, imageRows, inkRows, measureRows, inputRows, refineRows, openRows}
+use Rattle.input.specs.Input.{Input, input, pixelCount, inkCount, maskFits, paletteFits, firstUnnamed, imageTests, inkTests, inputTests, runTests, refineRunTests, openRunTests, refineTests, openTests}
+use Rattle.input.specs.Rows.{row6, row7, row8, row9, imageRows, inkRows, measureRows, inputRows, refineRows, openRows}
 use Rattle.input.proofs.FirstUnnamed.{first-is, named-of}
 use Rattle.input.proofs.Limits.{palette-iff}
 use Rattle.input.proofs.EyeValidity.{finite-positive-iff}
@@ -52,19 +52,21 @@ ink-rows : (I : Input) {ts : List Test} {rs : List Row} → Decides ts rs → De
 unfolding inkTests inkRows inkCount
 ink-rows I rest = at-0 (palette-means (length (I .palette))) (unnamed (inkCount I) (I .indices) (eye-rows (I .params) rest))
 
--- rows 1 to 3, and what follows them
-image-rows : (I : Input) {ts : List Test} {rs : List Row} → Decides ts rs →
-    Decides (imageTests (I .width) (I .height) (length (I .pixels)) (length (I .indices)) (length (I .pinned)) ++ ts) (imageRows I ++ (row4 (pixelCount I) (length (I .pinned)) ∷ rs))
+-- the test of the mask
+abbrev maskTest : Input → Test
+maskTest I = test (not (maskFits (length (I .pinned)) (pixelCount I))) 4 0
+
+-- rows 1 to 3
+image-rows : (I : Input) {ts : List Test} {rs : List Row} → Decides (maskTest I ∷ ts) rs →
+    Decides (imageTests (I .width) (I .height) (length (I .pixels)) (length (I .indices)) (length (I .pinned)) ++ ts) (imageRows I ++ rs)
 unfolding imageTests imageRows pixelCount
 image-rows I rest =
     at-0 (denied (not-and (not-and (gt 1 (I .width)) (gt (I .width) 4096)) (gt (I .height) 4096)))
-    (at-0 (denied (ne (length (I .pixels)) (3 * pixelCount I)))
-    (at-0 (denied (ne (length (I .indices)) (pixelCount I)))
-    (at-0 (denied (not-or (ne (length (I .pinned)) 0) (ne (length (I .pinned)) (pixelCount I)))) rest)))
+    (at-0 (denied (ne (length (I .pixels)) (3 * pixelCount I))) (at-0 (denied (ne (length (I .indices)) (pixelCount I))) rest))
 
 input-rows : (I : Input) {ts : List Test} {rs : List Row} → Decides ts rs → Decides (inputTests I ++ ts) (inputRows I ++ rs)
 unfolding inputTests imageTests inkTests eyeTests imageRows inkRows inputRows
-input-rows I rest = image-rows I (ink-rows I rest)
+input-rows I rest = image-rows I (at-0 (denied (not-or (ne (length (I .pinned)) 0) (ne (length (I .pinned)) (pixelCount I)))) (ink-rows I rest))
 
 -- ---- each call
 
@@ -96,4 +98,4 @@ module _ (I : Input) (passes tiles cpe cpp counts states deltas inks : ℕ) wher
 -- with an empty mask row 4 never holds
 pub measure-rows : (width height : ℕ) (pixels palette indices : List ℕ) (params : DbsParams) → let I = input width height pixels palette indices [] params in Decides (inputTests I) (measureRows I)
 unfolding inputTests imageTests inkTests eyeTests imageRows inkRows measureRows
-measure-rows width height pixels palette indices params = ?
+measure-rows width height pixels palette indices params = let I = input width height pixels palette indices [] params in image-rows I (no-row (maskTest I) refl (ink-rows I decided))
