@@ -92,11 +92,11 @@ openRows I passes tiles cpe cpp counts states deltas inks =
     inputRows I
     ++ (row10 passes
     ∷ row11
-      (buffer 1 cpe (3 * pixelCount I)
-      ∷ buffer 2 cpp 8450
-      ∷ buffer 3 counts passes
-      ∷ buffer 4 states tiles
-      ∷ buffer 5 deltas tiles
-      ∷ buffer 8 inks (3 * inkCount I)
-      ∷ [])
+    (buffer 1 cpe (3 * pixelCount I)
+    ∷ buffer 2 cpp 8450
+    ∷ buffer 3 counts passes
+    ∷ buffer 4 states tiles
+    ∷ buffer 5 deltas tiles
+    ∷ buffer 8 inks (3 * inkCount I)
+    ∷ [])
     ∷ [])

@@ -6,7 +6,7 @@ use mathlib.Core.Path.{_≡_, refl, ap, _∙_}
 use mathlib.Core.Logic.{_↔_, _≢_, Iff·trans, Iff·and}
 use mathlib.Core.Bool.{cond}
 use mathlib.Core.List.{List, [], _∷_, _++_}
-use borrow.Author.Tests.{ltb-false, le-ltb, ne-eqb}
+use borrow.Author.Tests.{ltb-false, le-ltb}
 use lib.Dec.{eqb}
 use lib.ListN.{length, set, replicate}
 use lib.Ieee.{Float}
@@ -15,10 +15,11 @@ use Rattle.base.specs.F64.{f0}
 use Rattle.base.specs.Refusal.{Test, judge, accepted, isAccepted, Passes}
 use Rattle.base.specs.Rows.{Row, Judged}
 use Rattle.base.proofs.RefusalLaws.{Numbered}
-use Rattle.base.proofs.JudgeLaws.{judge-zero, passes-append}
+use Rattle.base.proofs.JudgeLaws.{passes-append}
 use Rattle.base.proofs.RowLaws.{Decides}
-use Rattle.base.proofs.AnswerLaws.{Answers, answers, then-answers, judged}
+use Rattle.base.proofs.AnswerLaws.{is-accepted, not-accepted, Answers, answers, then-answers, judged}
 use Rattle.tiling.specs.Tiling.{tiles}
+use Rattle.input.specs.Valid.{ValidOpen}
 use Rattle.input.proofs.Limits.{length-iff}
 use Rattle.input.proofs.Validity.{open-numbered, open-passes}
 use Rattle.prepare.specs.Prepare.{tilingOf, inksOf, cppOf, cpeOf}
@@ -34,14 +35,12 @@ use Rattle.job.specs.Take.{Taken, taken, takeTests, takeOf}
 use Rattle.job.specs.Work.{Worked, worked, copyTest, workTests, workOf}
 use Rattle.job.specs.PutBack.{PutBack, putBack, countTest, putBackTests, withProgress, putBackOf}
 use Rattle.job.specs.Close.{Closed, closed, closeTests, nextRecord, released, closeOf}
-use Rattle.job.specs.Boundary.{OpenedRun, openedRun, openRun, takeRun, workRun, wordsAfter, PutBackRun, putBackWith, putBackRun, ClosedRun, closedWith, closeRun}
+use Rattle.job.specs.Boundary.{OpenedRun, openedRun, openRun, onRun, takeRun, workRun, wordsAfter, PutBackRun, putBackWith, putBackOver, putBackRun, ClosedRun, closedWith, closedOver, closeRun}
+use Rattle.job.specs.Valid.{ValidTake, ValidWork, ValidPutBack, ValidClose}
+use Rattle.job.specs.Rows.{openRunRows, takeRows, workRows, putBackRows, closeRows}
 use Rattle.job.specs.Demand1.{ValidRun, Demand1}
 use Rattle.job.proofs.Validity.{take-passes, work-passes, putBack-passes, close-passes}
 use Rattle.job.proofs.RowsOf.{open-decides, take-decides, work-decides, putBack-decides, close-decides}
-
--- a refusal's number is not 0
-not-zero : (ts : List Test) → Numbered ts → judge ts ≢ accepted → judge ts .number ≡ 0 → ⊥
-not-zero ts n f z = f (judge-zero ts n z)
 
 -- an answer handed on in another shape
 through : {A B : Type 0} {statusA : A → Status} {s : Status} {new : A} {keptA : Status → A} {given : A} → Answers statusA s new keptA given →
@@ -61,72 +60,112 @@ words-passes words = (
   λ v. (length-iff _ _ .1 (v .twelve), (le-ltb _ _ (v .flag), tt)),
 )
 
-module _ {A : Type 0} (words : List ℕ) (us : List Test) (status : A → Status) (kept : Status → A) (kept-status : (s : Status) → status (kept s) ≡ s) where
-  run-judged : {Valid : Type 0} {rows : List Row} {new : A} (given inner : A) → Answers status (judge us) new kept inner → (judge (wordsTests words) ≡ accepted → given ≡ inner) →
-      ((judge (wordsTests words) .number ≡ 0 → ⊥) → given ≡ kept (judge (wordsTests words))) → Numbered us → Passes us ↔ Valid → Decides (wordsTests words ++ us) rows →
-      Judged status (ValidRun words × Valid) kept rows given
-  unfolding wordsTests Numbered
-  run-judged given inner a leaves keeps n valid d =
-      judged (then-answers status kept kept-status (wordsTests words) us (words-numbered words) leaves (λ f. keeps (not-zero (wordsTests words) (words-numbered words) f)) a)
-      (words-numbered words .0, (words-numbered words .1 .0, n)) (Iff·trans (passes-append (wordsTests words) us) (Iff·and (words-passes words) valid)) d
-
--- ---- every number is a refusal's
-
-take-numbered : (r : JobRecord) (t : ℕ) (image : Pixels) (states : List ℕ) (copy : Pixels) → Numbered (takeTests r t image states copy)
-unfolding takeTests recordTests Numbered
-take-numbered r t image states copy = omega arith
-
-work-numbered : (r : JobRecord) (t : ℕ) (pinned : List ℕ) (cpp : List Float) (copy : Pixels) (inks : List Float) → Numbered (workTests r t pinned cpp copy inks)
-unfolding workTests recordTests copyTest Numbered
-work-numbered r t pinned cpp copy inks = omega arith
-
-putBack-numbered : (r : JobRecord) (t : ℕ) (image : Pixels) (states : List ℕ) (deltas : List Float) (made : State) → Numbered (putBackTests r t image states deltas made)
-unfolding putBackTests recordTests countTest copyTest Numbered
-putBack-numbered r t image states deltas made = omega arith
-
-close-numbered : (r : JobRecord) (counts states : List ℕ) (deltas : List Float) → Numbered (closeTests r counts states deltas)
-unfolding closeTests recordTests Numbered
-close-numbered r counts states deltas = omega arith
-
--- ---- the run after a refusal
-
-run-stays : (words : List ℕ) (ts : List Test) → Numbered ts → (r : JobRecord) → judge ts ≢ accepted → wordsAfter words (judge ts) r ≡ words
-unfolding wordsAfter isAccepted
-run-stays words ts n r f = rw (ne-eqb (judge ts .number) 0 (not-zero ts n f))
+module _ {A : Type 0} (words : List ℕ) (us : List Test) (status : A → Status) (kept : Status → A) (call : JobRecord → A) (kept-status : (s : Status) → status (kept s) ≡ s) where
+  on-run-judged : {Valid : Type 0} {rows : List Row} {new : A} → Answers status (judge us) new kept (call (decode words)) → Numbered us → Passes us ↔ Valid →
+      Decides (wordsTests words ++ us) rows → Judged status (ValidRun words × Valid) kept rows (onRun words kept call)
+  unfolding onRun wordsTests Numbered
+  on-run-judged a n valid d =
+      let w = words-numbered words in
+      judged (then-answers status kept kept-status (wordsTests words) us w (λ e. rw (e, is-accepted)) (λ f. rw (not-accepted (judge (wordsTests words)) f)) a)
+      (w .0, (w .1 .0, n)) (Iff·trans (passes-append (wordsTests words) us) (Iff·and (words-passes words) valid)) d
 
 -- ---- each call
 
-module _ (words : List ℕ) (t : ℕ) (image : Pixels) (states : List ℕ) (deltas : List Float) (made : State) where
-  abbrev putRun : PutBack → PutBackRun
-  putRun a = putBackWith (a .status) (wordsAfter words (a .status) (a .rec)) (a .image) (a .states) (a .deltas)
+module _ (words : List ℕ) (t : ℕ) (image : Pixels) (states : List ℕ) (copy : Pixels) where
+  take-judged : Judged (λ (a : Taken). a .status) (ValidRun words × ValidTake (decode words) t image states copy) (λ s. taken s (decode words) states copy)
+      (takeRows words t image states copy) (takeRun words t image states copy)
+  unfolding takeRun takeOf takeTests recordTests Numbered
+  take-judged =
+      let r = decode words in
+      on-run-judged words (takeTests r t image states copy) (λ (a : Taken). a .status) (λ s. taken s r states copy) (λ r. takeOf r t image states copy) (λ s. refl)
+      (answers (λ (a : Taken). a .status) (λ s. taken s r states copy) (λ s. refl) _ (λ s. taken s r (set states t 1) (copyOf (r .plan .tiling) t image)) refl)
+      (omega arith) (take-passes r t image states copy) (take-decides words t image states copy)
 
-  put-answers : (r : JobRecord) → Answers (λ (a : PutBackRun). a .status) (judge (putBackTests r t image states deltas made)) _ (λ s. putBackWith s words image states deltas) (putRun (putBackOf r t image states deltas made))
-  unfolding putBackOf
-  put-answers r =
-      let n = putBack-numbered r t image states deltas made in
-      through
+module _ (words : List ℕ) (t : ℕ) (pinned : List ℕ) (cpp : List Float) (copy : Pixels) (inks : List Float) where
+  work-judged : Judged (λ (a : Worked). a .status) (ValidRun words × ValidWork (decode words) t pinned cpp copy inks) (λ s. worked s (state (copy .cpe) (copy .indices) noProgress))
+      (workRows words t pinned cpp copy inks) (workRun words t pinned cpp copy inks)
+  unfolding workRun workOf workTests recordTests copyTest Numbered
+  work-judged =
+      let r = decode words in
+      let kept : Status → Worked = λ s. worked s (state (copy .cpe) (copy .indices) noProgress) in
+      on-run-judged words (workTests r t pinned cpp copy inks) (λ (a : Worked). a .status) kept (λ r. workOf r t pinned cpp copy inks) (λ s. refl)
+      (answers (λ (a : Worked). a .status) kept (λ s. refl) _ (λ s. worked s (refinedCopy (jobShared r pinned inks cpp) t copy)) refl)
+      (omega arith) (work-passes r t pinned cpp copy inks) (work-decides words t pinned cpp copy inks)
+
+-- the run after a refusal
+run-stays : (words : List ℕ) (s : Status) (r : JobRecord) → s ≢ accepted → wordsAfter words s r ≡ words
+unfolding wordsAfter
+run-stays words s r f = rw (not-accepted s f)
+
+module _ (words : List ℕ) (t : ℕ) (image : Pixels) (states : List ℕ) (deltas : List Float) (made : State) where
+  putBack-judged : Judged (λ (a : PutBackRun). a .status) (ValidRun words × ValidPutBack (decode words) t image states deltas made) (λ s. putBackWith s words image states deltas)
+      (putBackRows words t image states deltas made) (putBackRun words t image states deltas made)
+  unfolding putBackRun putBackOver putBackOf putBackTests recordTests countTest copyTest Numbered
+  putBack-judged =
+      let r = decode words in
+      on-run-judged words (putBackTests r t image states deltas made) (λ (a : PutBackRun). a .status) (λ s. putBackWith s words image states deltas)
+      (λ r. putBackOver words (putBackOf r t image states deltas made)) (λ s. refl)
+      (through
       (answers (λ (a : PutBack). a .status) (λ s. putBack s r image states deltas) (λ s. refl) (judge (putBackTests r t image states deltas made))
       (λ s. putBack s (withProgress r (made .progress)) (writtenBack (r .plan .tiling) t image (pixels (made .cpe) (made .indices))) (set states t 2) (set deltas t (made .progress .delta))) refl)
-      (λ (a : PutBackRun). a .status) (λ s. putBackWith s words image states deltas) putRun (λ a. refl)
-      (λ f. rw (run-stays words (putBackTests r t image states deltas made) n r f))
+      (λ (a : PutBackRun). a .status) (λ s. putBackWith s words image states deltas) (putBackOver words) (λ a. refl) (λ f. rw (run-stays words _ r f)))
+      (omega arith) (putBack-passes r t image states deltas made) (putBack-decides words t image states deltas made)
 
-demand1 : Demand1
-unfolding takeRun takeOf workRun workOf putBackRun isAccepted
+module _ (words counts states : List ℕ) (deltas : List Float) where
+  close-judged : Judged (λ (a : ClosedRun). a .status) (ValidRun words × ValidClose (decode words) counts states deltas) (λ s. closedWith s words counts states)
+      (closeRows words counts states deltas) (closeRun words counts states deltas)
+  unfolding closeRun closedOver closeOf closeTests recordTests Numbered
+  close-judged =
+      let r = decode words in
+      on-run-judged words (closeTests r counts states deltas) (λ (a : ClosedRun). a .status) (λ s. closedWith s words counts states)
+      (λ r. closedOver words (closeOf r counts states deltas)) (λ s. refl)
+      (through
+      (answers (λ (a : Closed). a .status) (λ s. closed s r counts states) (λ s. refl) (judge (closeTests r counts states deltas))
+      (λ s. closed s (nextRecord r deltas) (cond (eqb (r .phase) 3) (set counts (r .done) (r .accepted)) counts) (released (r .plan .tiling) (r .phase) states)) refl)
+      (λ (a : ClosedRun). a .status) (λ s. closedWith s words counts states) (closedOver words) (λ a. refl) (λ f. rw (run-stays words _ r f)))
+      (omega arith) (close-passes r counts states deltas) (close-decides words counts states deltas)
+
+-- open's run is only written
+module _ (words : List ℕ) (O : Opening) where
+  run-numbered : Numbered (runTest words ∷ [])
+  unfolding runTest Numbered
+  run-numbered = omega arith
+
+  run-passes : Passes (runTest words ∷ []) ↔ (length words ≡ 12)
+  unfolding runTest Passes
+  run-passes = (λ p. length-iff _ _ .0 (p .0), λ e. (length-iff _ _ .1 e, tt))
+
+  opens-numbered : Numbered (runTest words ∷ openTestsOf O)
+  unfolding runTest openTestsOf Numbered
+  opens-numbered = (omega arith, open-numbered (O .input) (O .passes) _ _ _ _ _ _ _)
+
+  -- the answer to an open, and the run that it leaves
+  abbrev openedOver : Opened → OpenedRun
+  openedOver a = openedRun (a .status) (cond (isAccepted (a .status)) (encode (a .rec)) words) (a .cpe) (a .cpp) (a .states) (a .deltas) (a .inks)
+
+  open-judged : Judged (λ (a : OpenedRun). a .status)
+      ((length words ≡ 12)
+      × ValidOpen (O .input) (O .passes) (tiles (tilingOf (O .input))) (length (O .cpe)) (length (O .cpp)) (length (O .counts)) (length (O .states)) (length (O .deltas)) (length (O .inks)))
+      (λ s. openedRun s words (O .cpe) (O .cpp) (O .states) (O .deltas) (O .inks)) (openRunRows words O) (openRun words O)
+  unfolding openRun openOf openTestsOf
+  open-judged =
+      let kept : Status → OpenedRun = λ s. openedRun s words (O .cpe) (O .cpp) (O .states) (O .deltas) (O .inks) in
+      judged
+      (then-answers (λ (a : OpenedRun). a .status) kept (λ s. refl) (runTest words ∷ []) (openTestsOf O) run-numbered (λ e. rw (e, is-accepted)) (λ f. rw (not-accepted (judge (runTest words ∷ [])) f))
+      (through
+      (answers (λ (a : Opened). a .status) (λ s. opened s zeroRecord (O .cpe) (O .cpp) (O .states) (O .deltas) (O .inks)) (λ s. refl) (judge (openTestsOf O))
+      (λ s. opened s (firstRecord O) (cpeOf (O .input) (O .cpp)) (cppOf (O .input) (O .cpp)) (replicate (tiles (tilingOf (O .input))) 0) (replicate (tiles (tilingOf (O .input))) f0) (inksOf (O .input))) refl)
+      (λ (a : OpenedRun). a .status) kept openedOver (λ a. refl) (λ f. rw (not-accepted _ f))))
+      opens-numbered (Iff·trans (passes-append (runTest words ∷ []) (openTestsOf O)) (Iff·and run-passes (open-passes (O .input) (O .passes) _ _ _ _ _ _ _))) (open-decides words O)
+
+pub demand1 : Demand1
 demand1 = record {
   refines = refine-judged;
   ends = run-ends;
   measures = measure-judged;
-  opens = ?;
-  takes = λ words t image states copy.
-      let r = decode words in
-      run-judged words (takeTests r t image states copy) (λ (a : Taken). a .status) (λ s. taken s r states copy) (λ s. refl) (takeRun words t image states copy) (takeOf r t image states copy)
-      (answers (λ (a : Taken). a .status) (λ s. taken s r states copy) (λ s. refl) (judge (takeTests r t image states copy)) (λ s. taken s r (set states t 1) (copyOf (r .plan .tiling) t image)) refl)
-      (λ e. rw e) (λ n. rw (ne-eqb _ 0 n)) (take-numbered r t image states copy) (take-passes r t image states copy) (take-decides words t image states copy);
-  works = λ words t pinned cpp copy inks.
-      let r = decode words in
-      run-judged words (workTests r t pinned cpp copy inks) (λ (a : Worked). a .status) (λ s. worked s (state (copy .cpe) (copy .indices) noProgress)) (λ s. refl) (workRun words t pinned cpp copy inks) (workOf r t pinned cpp copy inks)
-      (answers (λ (a : Worked). a .status) (λ s. worked s (state (copy .cpe) (copy .indices) noProgress)) (λ s. refl) (judge (workTests r t pinned cpp copy inks)) (λ s. worked s (refinedCopy (jobShared r pinned inks cpp) t copy)) refl)
-      (λ e. rw e) (λ n. rw (ne-eqb _ 0 n)) (work-numbered r t pinned cpp copy inks) (work-passes r t pinned cpp copy inks) (work-decides words t pinned cpp copy inks);
-  puts = ?;
-  closes = ?;
+  opens = open-judged;
+  takes = take-judged;
+  works = work-judged;
+  puts = putBack-judged;
+  closes = close-judged;
 }

@@ -91,11 +91,11 @@ takeRows words t image states copy =
     ∷ row13 r t
     ∷ row3 (pixelsOf r) (length (image .indices))
     ∷ row11
-      (buffer 1 (length (image .cpe)) (3 * pixelsOf r)
-      ∷ buffer 4 (length states) (tiles (r .plan .tiling))
-      ∷ buffer 6 (length (copy .cpe)) (3 * area (region (r .plan .tiling) t))
-      ∷ buffer 7 (length (copy .indices)) (area (region (r .plan .tiling) t))
-      ∷ [])
+    (buffer 1 (length (image .cpe)) (3 * pixelsOf r)
+    ∷ buffer 4 (length states) (tiles (r .plan .tiling))
+    ∷ buffer 6 (length (copy .cpe)) (3 * area (region (r .plan .tiling) t))
+    ∷ buffer 7 (length (copy .indices)) (area (region (r .plan .tiling) t))
+    ∷ [])
     ∷ row14 0 states t
     ∷ []
 
@@ -106,11 +106,11 @@ workRows words t pinned cpp copy inks =
     ∷ workRow13 r t
     ∷ row4 (pixelsOf r) (length pinned)
     ∷ row11
-      (buffer 2 (length cpp) 8450
-      ∷ buffer 6 (length (copy .cpe)) (3 * area (region (r .plan .tiling) t))
-      ∷ buffer 7 (length (copy .indices)) (area (region (r .plan .tiling) t))
-      ∷ buffer 8 (length inks) (3 * r .plan .inks)
-      ∷ [])
+    (buffer 2 (length cpp) 8450
+    ∷ buffer 6 (length (copy .cpe)) (3 * area (region (r .plan .tiling) t))
+    ∷ buffer 7 (length (copy .indices)) (area (region (r .plan .tiling) t))
+    ∷ buffer 8 (length inks) (3 * r .plan .inks)
+    ∷ [])
     ∷ row6 (r .plan .inks) (copy .indices)
     ∷ []
 
@@ -122,12 +122,12 @@ putBackRows words t image states deltas made =
     ∷ row13 r t
     ∷ row3 (pixelsOf r) (length (image .indices))
     ∷ row11
-      (buffer 1 (length (image .cpe)) (3 * pixelsOf r)
-      ∷ buffer 4 (length states) (tiles (r .plan .tiling))
-      ∷ buffer 5 (length deltas) (tiles (r .plan .tiling))
-      ∷ buffer 6 (length (made .cpe)) (3 * area (region (r .plan .tiling) t))
-      ∷ buffer 7 (length (made .indices)) (area (region (r .plan .tiling) t))
-      ∷ [])
+    (buffer 1 (length (image .cpe)) (3 * pixelsOf r)
+    ∷ buffer 4 (length states) (tiles (r .plan .tiling))
+    ∷ buffer 5 (length deltas) (tiles (r .plan .tiling))
+    ∷ buffer 6 (length (made .cpe)) (3 * area (region (r .plan .tiling) t))
+    ∷ buffer 7 (length (made .indices)) (area (region (r .plan .tiling) t))
+    ∷ [])
     ∷ row14 1 states t
     ∷ row6 (r .plan .inks) (made .indices)
     ∷ []
@@ -138,9 +138,9 @@ closeRows words counts states deltas =
     row12 words []
     ∷ row16 r
     ∷ row11
-      (buffer 3 (length counts) (r .plan .allowed)
-      ∷ buffer 4 (length states) (tiles (r .plan .tiling))
-      ∷ buffer 5 (length deltas) (tiles (r .plan .tiling))
-      ∷ [])
+    (buffer 3 (length counts) (r .plan .allowed)
+    ∷ buffer 4 (length states) (tiles (r .plan .tiling))
+    ∷ buffer 5 (length deltas) (tiles (r .plan .tiling))
+    ∷ [])
     ∷ row15 r states
     ∷ []
