@@ -8,7 +8,7 @@ use borrow.Author.Tests.{eqb-true, ne-eqb}
 use lib.Dec.{eqb}
 use Rattle.base.specs.declared.Status.{Status}
 use Rattle.base.specs.Refusal.{Test, judge, accepted, isAccepted, Passes}
-use Rattle.base.specs.Rows.{Row, FirstRow, Judged}
+use Rattle.base.specs.Rows.{Row, Judged}
 use Rattle.base.proofs.RefusalLaws.{Numbered}
 use Rattle.base.proofs.JudgeLaws.{judge-append, judge-zero, accepted-iff}
 use Rattle.base.proofs.RowLaws.{Decides}
@@ -27,6 +27,9 @@ pub is-accepted : isAccepted accepted ≡ true
 unfolding isAccepted
 is-accepted = refl
 
+is-refused : (s : Status) → isAccepted s ≡ false → s ≢ accepted
+is-refused s e q = true≢false (sym is-accepted ∙ ap isAccepted (sym q) ∙ e)
+
 pub not-accepted : (s : Status) → s ≢ accepted → isAccepted s ≡ false
 not-accepted s n = go (isAccepted s) refl
   where
@@ -43,12 +46,15 @@ pub record Answers {A : Type 0} (status : A → Status) (s : Status) (new : A) (
   pub keeps : s ≢ accepted → given ≡ kept s
 
 module _ {A : Type 0} (status : A → Status) (kept : Status → A) (kept-status : (s : Status) → status (kept s) ≡ s) where
-  pub answers : (s : Status) (new : Status → A) → status (new accepted) ≡ accepted → Answers status s (new accepted) kept (cond (isAccepted s) (new s) (kept s))
-  answers s new new-status = record { told = go (isAccepted s) refl; leaves = λ e. rw (e, is-accepted); keeps = λ n. rw (not-accepted s n) }
+  pub answered : (s : Status) {new given : A} → status new ≡ accepted → (s ≡ accepted → given ≡ new) → (s ≢ accepted → given ≡ kept s) → Answers status s new kept given
+  answered s {new} {given} new-status leaves keeps = record { told = go (isAccepted s) refl; leaves = leaves; keeps = keeps }
     where
-      go : (b : Bool) → isAccepted s ≡ b → status (cond b (new s) (kept s)) ≡ s
-      go true e = rw (accepted-is s e) new-status
-      go false e = kept-status s
+      go : (b : Bool) → isAccepted s ≡ b → status given ≡ s
+      go true e = let h = accepted-is s e in ap status (leaves h) ∙ new-status ∙ sym h
+      go false e = ap status (keeps (is-refused s e)) ∙ kept-status s
+
+  pub answers : (s : Status) (new : Status → A) → status (new accepted) ≡ accepted → Answers status s (new accepted) kept (cond (isAccepted s) (new s) (kept s))
+  answers s new new-status = answered s new-status (λ e. rw (e, is-accepted)) (λ n. rw (not-accepted s n))
 
   -- further tests where the first pass
   pub then-answers : (ts us : List Test) → Numbered ts → {new given inner : A} → (judge ts ≡ accepted → given ≡ inner) → (judge ts ≢ accepted → given ≡ kept (judge ts)) →
@@ -61,9 +67,14 @@ module _ {A : Type 0} (status : A → Status) (kept : Status → A) (kept-status
           let same : judge (ts ++ us) ≡ judge us = judge-append ts us numbered ∙ rw ok in
           rw (same, leaves ok) a
       go false e =
-          let no : judge ts ≢ accepted = λ q. true≢false (sym is-accepted ∙ ap isAccepted (sym q) ∙ e) in
+          let no = is-refused (judge ts) e in
           let same : judge (ts ++ us) ≡ judge ts = judge-append ts us numbered ∙ rw (ne-eqb (judge ts .number) 0 (λ z. no (judge-zero ts numbered z))) in
           rw (same, keeps no) (record { told = kept-status (judge ts); leaves = λ q. absurd (no q); keeps = λ n. refl })
+
+-- an answer handed on in another shape
+pub through : {A B : Type 0} {statusA : A → Status} {s : Status} {new : A} {keptA : Status → A} {given : A} → Answers statusA s new keptA given →
+    (statusB : B → Status) (keptB : Status → B) (f : A → B) → ((a : A) → statusB (f a) ≡ statusA a) → (s ≢ accepted → f (keptA s) ≡ keptB s) → Answers statusB s (f new) keptB (f given)
+through {given = given} a statusB keptB f same kept = record { told = same given ∙ a .told; leaves = λ e. ap f (a .leaves e); keeps = λ n. ap f (a .keeps n) ∙ kept n }
 
 -- demand 1 of such a call
 pub judged : {A : Type 0} {status : A → Status} {ts : List Test} {new : A} {kept : Status → A} {given : A} {Valid : Type 0} {rows : List Row} →

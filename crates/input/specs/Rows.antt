@@ -81,22 +81,18 @@ inputRows I = imageRows I ++ (row4 (pixelCount I) (length (I .pinned)) ∷ inkRo
 -- 'Field: 3n f64', 'Kernel store: 8,450 f64', 'Counts: one u32 per allowed pass', 'ink values (3 f64 per ink)'
 unfoldable pub refineRows : Input → ℕ → ℕ → ℕ → ℕ → ℕ → List Row
 refineRows I passes cpe cpp counts inks =
-    inputRows I
-    ++ (row10 passes
-    ∷ row11 (buffer 1 cpe (3 * pixelCount I) ∷ buffer 2 cpp 8450 ∷ buffer 3 counts passes ∷ buffer 8 inks (3 * inkCount I) ∷ [])
-    ∷ [])
+    let buffers : List Line = buffer 1 cpe (3 * pixelCount I) ∷ buffer 2 cpp 8450 ∷ buffer 3 counts passes ∷ buffer 8 inks (3 * inkCount I) ∷ [] in
+    inputRows I ++ (row10 passes ∷ row11 buffers ∷ [])
 
 -- 'ledger (a byte per tile ..) and deltas (an f64 per tile)'
 unfoldable pub openRows : Input → ℕ → ℕ → ℕ → ℕ → ℕ → ℕ → ℕ → ℕ → List Row
 openRows I passes tiles cpe cpp counts states deltas inks =
-    inputRows I
-    ++ (row10 passes
-    ∷ row11
-    (buffer 1 cpe (3 * pixelCount I)
+    let buffers : List Line =
+    buffer 1 cpe (3 * pixelCount I)
     ∷ buffer 2 cpp 8450
     ∷ buffer 3 counts passes
     ∷ buffer 4 states tiles
     ∷ buffer 5 deltas tiles
     ∷ buffer 8 inks (3 * inkCount I)
-    ∷ [])
-    ∷ [])
+    ∷ [] in
+    inputRows I ++ (row10 passes ∷ row11 buffers ∷ [])

@@ -5,7 +5,7 @@ use native.Mathlib.Decide.{ℕ-discrete}
 use mathlib.Core.Path.{_≡_, refl}
 use mathlib.Core.Logic.{_⊎_}
 use mathlib.Core.Bool.{Bool, true, false, not, cond}
-use mathlib.Core.List.{List, [], _∷_, _++_}
+use mathlib.Core.List.{List, _∷_, _++_}
 use borrow.Author.Tests.{ltb-true, ltb-false, eqb-true, eqb-false}
 use lib.Dec.{ltb, eqb}
 use lib.ListN.{length, getD}
@@ -18,7 +18,6 @@ use Rattle.base.proofs.Meanings.{Means, denied, is, isnt, lt, ge, le, gt, ne, a
 use Rattle.base.proofs.RowLaws.{Decides, decided, at-lowest, Tells, told, tells, Rises, by-lines, at-0}
 use Rattle.tiling.specs.Tiling.{tiles, inPhase, tile, region}
 use Rattle.input.proofs.RowsOf.{unnamed, open-rows}
-use Rattle.prepare.specs.Prepare.{tilingOf}
 use Rattle.tile.specs.Tile.{State}
 use Rattle.job.specs.declared.JobRecord.{JobRecord}
 use Rattle.job.specs.Record.{pixelsOf, radiusFits, recordTests, isDue, isWaiting, isOut, isBack}

@@ -86,48 +86,41 @@ openRunRows words O =
 unfoldable pub takeRows : List ℕ → ℕ → Pixels → List ℕ → Pixels → List Row
 takeRows words t image states copy =
     let r = decode words in
-    row12 words []
-    ∷ row16 r
-    ∷ row13 r t
-    ∷ row3 (pixelsOf r) (length (image .indices))
-    ∷ row11
-    (buffer 1 (length (image .cpe)) (3 * pixelsOf r)
+    let buffers : List Line =
+    buffer 1 (length (image .cpe)) (3 * pixelsOf r)
     ∷ buffer 4 (length states) (tiles (r .plan .tiling))
     ∷ buffer 6 (length (copy .cpe)) (3 * area (region (r .plan .tiling) t))
     ∷ buffer 7 (length (copy .indices)) (area (region (r .plan .tiling) t))
-    ∷ [])
-    ∷ row14 0 states t
-    ∷ []
+    ∷ [] in
+    row12 words [] ∷ row16 r ∷ row13 r t ∷ row3 (pixelsOf r) (length (image .indices)) ∷ row11 buffers ∷ row14 0 states t ∷ []
 
 unfoldable pub workRows : List ℕ → ℕ → List ℕ → List Float → Pixels → List Float → List Row
 workRows words t pinned cpp copy inks =
     let r = decode words in
-    row12 words []
-    ∷ workRow13 r t
-    ∷ row4 (pixelsOf r) (length pinned)
-    ∷ row11
-    (buffer 2 (length cpp) 8450
+    let buffers : List Line =
+    buffer 2 (length cpp) 8450
     ∷ buffer 6 (length (copy .cpe)) (3 * area (region (r .plan .tiling) t))
     ∷ buffer 7 (length (copy .indices)) (area (region (r .plan .tiling) t))
     ∷ buffer 8 (length inks) (3 * r .plan .inks)
-    ∷ [])
-    ∷ row6 (r .plan .inks) (copy .indices)
-    ∷ []
+    ∷ [] in
+    row12 words [] ∷ workRow13 r t ∷ row4 (pixelsOf r) (length pinned) ∷ row11 buffers ∷ row6 (r .plan .inks) (copy .indices) ∷ []
 
 unfoldable pub putBackRows : List ℕ → ℕ → Pixels → List ℕ → List Float → State → List Row
 putBackRows words t image states deltas made =
     let r = decode words in
-    row12 words (wrongCount r t (made .progress .accepted) ∷ [])
-    ∷ row16 r
-    ∷ row13 r t
-    ∷ row3 (pixelsOf r) (length (image .indices))
-    ∷ row11
-    (buffer 1 (length (image .cpe)) (3 * pixelsOf r)
+    let count = wrongCount r t (made .progress .accepted) in
+    let buffers : List Line =
+    buffer 1 (length (image .cpe)) (3 * pixelsOf r)
     ∷ buffer 4 (length states) (tiles (r .plan .tiling))
     ∷ buffer 5 (length deltas) (tiles (r .plan .tiling))
     ∷ buffer 6 (length (made .cpe)) (3 * area (region (r .plan .tiling) t))
     ∷ buffer 7 (length (made .indices)) (area (region (r .plan .tiling) t))
-    ∷ [])
+    ∷ [] in
+    row12 words (count ∷ [])
+    ∷ row16 r
+    ∷ row13 r t
+    ∷ row3 (pixelsOf r) (length (image .indices))
+    ∷ row11 buffers
     ∷ row14 1 states t
     ∷ row6 (r .plan .inks) (made .indices)
     ∷ []
@@ -135,12 +128,9 @@ putBackRows words t image states deltas made =
 unfoldable pub closeRows : List ℕ → List ℕ → List ℕ → List Float → List Row
 closeRows words counts states deltas =
     let r = decode words in
-    row12 words []
-    ∷ row16 r
-    ∷ row11
-    (buffer 3 (length counts) (r .plan .allowed)
+    let buffers : List Line =
+    buffer 3 (length counts) (r .plan .allowed)
     ∷ buffer 4 (length states) (tiles (r .plan .tiling))
     ∷ buffer 5 (length deltas) (tiles (r .plan .tiling))
-    ∷ [])
-    ∷ row15 r states
-    ∷ []
+    ∷ [] in
+    row12 words [] ∷ row16 r ∷ row11 buffers ∷ row15 r states ∷ []
