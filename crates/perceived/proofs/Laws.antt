@@ -6,6 +6,7 @@ use mathlib.Core.List.{List, []}
 use lib.ListN.{length}
 use lib.Ieee.{Float}
 use Rattle.base.specs.declared.Status.{Status}
+use Rattle.base.specs.F64.{f0}
 use Rattle.base.specs.Refusal.{judge, accepted}
 use Rattle.base.specs.Rows.{Judged}
 use Rattle.base.proofs.RefusalLaws.{passes-of}
@@ -92,7 +93,7 @@ measure-answers I = answers measureStatus refusal (λ s. refl) (judge (inputTest
 
 -- demand 1 of measuring: the input has no mask
 pub measure-judged : (width height : ℕ) (pixels palette indices : List ℕ) (params : DbsParams) →
-    let I = input width height pixels palette indices [] params in Judged measureStatus (Valid I) refusal (measureRows I) (measureOf I)
+    let I = input width height pixels palette indices [] params in Judged measureStatus (Valid I) (λ s. record { number = s .number; place = s .place; error = f0 }) (measureRows I) (measureOf I)
 measure-judged width height pixels palette indices params =
     let I = input width height pixels palette indices [] params in
     judged (measure-answers I) (input-numbered I) (valid-passes I) (measure-rows width height pixels palette indices params)

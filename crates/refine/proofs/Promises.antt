@@ -6,6 +6,7 @@ use mathlib.Core.Bool.{true}
 use mathlib.Core.List.{List}
 use lib.ListN.{length}
 use lib.Ieee.{Float}
+use Rattle.base.specs.F64.{f0}
 use Rattle.base.specs.Grid.{Inside}
 use Rattle.base.specs.Refusal.{accepted}
 use Rattle.base.specs.Rows.{Judged}
@@ -23,7 +24,7 @@ use Rattle.walk.specs.Walk.{walkEnd}
 use Rattle.walk.proofs.Ends.{walk-settled, walk-ends, walk-sound}
 use Rattle.prepare.specs.Prepare.{tilingOf, cpeOf, sharedOf, errorOf, runOne}
 use Rattle.prepare.proofs.Laws.{start-ready}
-use Rattle.refine.specs.Refine.{refinement, refineStatus, refusedStats, refineOf, refineAccepted}
+use Rattle.refine.specs.Refine.{refinement, refineStatus, refineOf, refineAccepted}
 use Rattle.refine.proofs.Laws.{refine-answers}
 
 -- ---- the walk of an accepted input
@@ -56,7 +57,7 @@ run-kept I passes cpp v e n =
 module _ (I : Input) (passes : ℕ) (cpe cpp : List Float) (counts : List ℕ) (inks : List Float) where
   -- demand 1 of refining
   pub refine-judged : Judged refineStatus (ValidRefine I passes (length cpe) (length cpp) (length counts) (length inks))
-      (λ s. refinement (refusedStats s) (I .indices) cpe cpp counts inks)
+      (λ s. refinement (record { number = s .number; place = s .place; passes = 0; «initial_error» = f0; «final_error» = f0 }) (I .indices) cpe cpp counts inks)
       (refineRows I passes (length cpe) (length cpp) (length counts) (length inks))
       (refineOf I passes cpe cpp counts inks)
   refine-judged =
