@@ -6,3 +6,6 @@ pub mod MirrorLaws
 pub mod PartLaws
 pub mod RefusalLaws
 pub mod JudgeLaws
+pub mod Meanings
+pub mod RowLaws
+pub mod AnswerLaws

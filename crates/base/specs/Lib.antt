@@ -1,4 +1,5 @@
 pub mod Loop
 pub mod Grid
 pub mod Refusal
+pub mod Rows
 pub mod F64

@@ -6,18 +6,19 @@ use mathlib.Core.Bool.{Bool, true, false, cond, true≢false}
 use mathlib.Core.List.{List, [], _∷_}
 use native.Mathlib.Omega.{arith}
 use borrow.Author.Tests.{not-false, ltb-true}
-use lib.Dec.{T, eqb, lt→ltb}
+use lib.Dec.{T, lt→ltb}
 use lib.Ieee.{Float, nan, inf, fin, up, down, lt, le, mul, div, ofBits}
 use lib.Ieee.Positive.{positive, first-pos}
 use Rattle.base.specs.F64.{_*f_, _/f_, f2}
 use Rattle.base.specs.declared.Status.{Status}
-use Rattle.base.specs.Refusal.{judge, accepted, Passes}
+use Rattle.base.specs.Refusal.{judge, accepted, isAccepted, Passes}
 use Rattle.base.proofs.Bounds.{product-le}
 use Rattle.base.proofs.RefusalLaws.{Numbered, passes-of}
 use Rattle.base.proofs.JudgeLaws.{judge-zero}
+use Rattle.base.proofs.AnswerLaws.{is-accepted}
 use Rattle.eye.specs.declared.DbsParams.{DbsParams}
 use Rattle.eye.specs.Constants.{alphaLum, alphaChroma, sigmaMin, cmPerInch, pi, f180}
-use Rattle.eye.specs.Eye.{toDegrees, sigmaPx, truncation, blurRadius, kernelRadius, KernelRadius, Narrow, isFinitePositive, eyeTests, eye, eyeOf}
+use Rattle.eye.specs.Eye.{toDegrees, sigmaPx, truncation, blurRadius, kernelRadius, KernelRadius, Narrow, isFinitePositive, eyeTests, eye, withRadii, eyeOf}
 use Rattle.eye.proofs.NonNegative.{nonneg, Ordered, div-nonneg, mul-nonneg, div-mono, both-narrow, both-wide}
 use Rattle.eye.proofs.CeilLaws.{ceil-bound}
 
@@ -81,13 +82,16 @@ kernel-fits R h = let s : 2 * R + 1 ≤ 65 = omega arith in product-le (2 * R + 
 
 -- ---- what a caller of `validate` knows by its answer
 
-pub eye-status : (p : DbsParams) → eyeOf p .status ≡ judge (eyeTests p)
-unfolding eyeOf
-eye-status p = go (eqb (judge (eyeTests p) .number) 0)
+pub radii-status : (s : Status) (p : DbsParams) → withRadii s p .status ≡ s
+radii-status s p = go (isAccepted s)
   where
-    go : (b : Bool) → (cond b (eye (judge (eyeTests p)) (kernelRadius alphaLum p) (kernelRadius alphaChroma p)) (eye (judge (eyeTests p)) 0 0)) .status ≡ judge (eyeTests p)
+    go : (b : Bool) → (cond b (eye s (kernelRadius alphaLum p) (kernelRadius alphaChroma p)) (eye s 0 0)) .status ≡ s
     go true = refl
     go false = refl
+
+pub eye-status : (p : DbsParams) → eyeOf p .status ≡ judge (eyeTests p)
+unfolding eyeOf
+eye-status p = radii-status (judge (eyeTests p)) p
 
 pub eye-accepted : (p : DbsParams) → eyeOf p .status .number ≡ 0 → judge (eyeTests p) ≡ accepted
 unfolding eyeTests Numbered
@@ -95,4 +99,4 @@ eye-accepted p e = judge-zero (eyeTests p) (omega arith) (ap (λ (s : Status). s
 
 pub eye-radii : (p : DbsParams) → judge (eyeTests p) ≡ accepted → eyeOf p ≡ eye accepted (kernelRadius alphaLum p) (kernelRadius alphaChroma p)
 unfolding eyeOf
-eye-radii p e = rw e
+eye-radii p e = rw (e, is-accepted)

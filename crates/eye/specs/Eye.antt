@@ -3,10 +3,10 @@ use Prim.Native.Nat.{ℕ, _*_, _%_, _≤_, max}
 use mathlib.Core.Path.{_≡_}
 use mathlib.Core.Bool.{Bool, false, not, cond}
 use mathlib.Core.List.{List, [], _∷_}
-use lib.Dec.{T, eqb}
+use lib.Dec.{T}
 use lib.Ieee.{Float, nan, inf, fin, lt, le}
 use Rattle.base.specs.F64.{_*f_, _/f_, f0, f2}
-use Rattle.base.specs.Refusal.{Test, test, judge, status}
+use Rattle.base.specs.Refusal.{Test, test, judge, status, isAccepted}
 use Rattle.base.specs.declared.Status.{Status}
 use Rattle.eye.specs.declared.DbsParams.{DbsParams}
 use Rattle.eye.specs.declared.Eye.{Eye}
@@ -60,8 +60,9 @@ eyeTests p =
 abbrev pub eye : Status → ℕ → ℕ → Eye
 eye s lum chroma = record { status = s; «lum_radius» = lum; «chroma_radius» = chroma }
 
--- the answer: 0, 0 and both kernel radii, or the refusal and zeros
+-- a judgement with both kernel radii, which are zeros where it is a refusal
+abbrev pub withRadii : Status → DbsParams → Eye
+withRadii s p = cond (isAccepted s) (eye s (kernelRadius alphaLum p) (kernelRadius alphaChroma p)) (eye s 0 0)
+
 unfoldable pub eyeOf : DbsParams → Eye
-eyeOf p =
-    let s = judge (eyeTests p) in
-    cond (eqb (s .number) 0) (eye s (kernelRadius alphaLum p) (kernelRadius alphaChroma p)) (eye s 0 0)
+eyeOf p = withRadii (judge (eyeTests p)) p

@@ -1,15 +1,10 @@
 -- What refine leaves and what measure answers. Assumes nothing.
 use Prim.Native.Nat.{ℕ, _*_}
-use mathlib.Core.Path.{_≡_, refl, sym, ap, _∙_, subst}
-use mathlib.Core.Bool.{Bool, true, false, cond}
+use mathlib.Core.Path.{_≡_, refl, sym, ap, _∙_}
 use mathlib.Core.List.{List}
-use borrow.Author.Tests.{eqb-true}
-use lib.Dec.{eqb}
 use lib.ListN.{length}
 use lib.Ieee.{Float}
-use Rattle.base.specs.declared.Status.{Status}
 use Rattle.base.specs.Refusal.{judge, accepted}
-use Rattle.base.proofs.JudgeLaws.{judge-zero}
 use Rattle.color.specs.Inks.{inkValues}
 use Rattle.eye.specs.Constants.{alphaLum, alphaChroma}
 use Rattle.eye.specs.Eye.{sigmaPx, blurRadius}
@@ -22,30 +17,34 @@ use Rattle.kernelbounds.proofs.Gauss.{blur-within}
 use Rattle.kernelbounds.proofs.Kernels.{fitting-lum, fitting-chroma}
 use Rattle.errorbounds.proofs.Errors.{error-within}
 use Rattle.errorbounds.proofs.Measured.{perceived-within}
-use Rattle.input.specs.Input.{Input, inputTests, refineTests}
-use Rattle.input.proofs.InputLaws.{input-numbered}
-use Rattle.input.proofs.Validity.{valid-iff, refine-valid-iff}
+use Rattle.input.specs.Input.{Input, inputTests}
+use Rattle.input.specs.Valid.{ValidRefine}
+use Rattle.input.proofs.Validity.{valid-iff}
 use Rattle.prepare.proofs.Laws.{eye-ok}
-use Rattle.refine.specs.Refine.{refineAccepted, refineOf}
-use Rattle.refine.proofs.Laws.{accepted-is}
-use Rattle.refine.proofs.Promises.{accepts-valid}
-use Rattle.perceived.specs.Perceived.{Blur, errorOf as measuredError, answer, refusal, measureOf}
-use Rattle.perceived.proofs.Laws.{frame-fits}
+use Rattle.refine.specs.Refine.{refineStatus, refineAccepted, refineOf}
+use Rattle.refine.proofs.Laws.{refine-answers}
+use Rattle.refine.proofs.Promises.{refine-judged}
+use Rattle.perceived.specs.declared.Measured.{Measured}
+use Rattle.perceived.specs.Perceived.{Blur, measuredError, measureStatus, measureOf}
+use Rattle.perceived.proofs.Laws.{frame-fits, measure-answers}
 use Rattle.finite.specs.Finite.{RunNumbers, RefinedNumbers, MeasuredNumbers}
 use Rattle.finite.proofs.Prepared.{colour-number}
 use Rattle.finite.proofs.Runs.{run-numbers}
 
 -- ---- refine
 
-module _ (I : Input) (passes : ℕ) (cpe cpp : List Float) (counts : List ℕ) (inks : List Float) (e : refineOf I passes cpe cpp counts inks .stats .number ≡ 0) where
+module _ (I : Input) (passes : ℕ) (cpe cpp : List Float) (counts : List ℕ) (inks : List Float) (e : refineStatus (refineOf I passes cpe cpp counts inks) ≡ accepted) where
+  given : ValidRefine I passes (length cpe) (length cpp) (length counts) (length inks)
+  given = refine-judged I passes cpe cpp counts inks .accepts .0 e
+
   input-ok : judge (inputTests I) ≡ accepted
-  input-ok = valid-iff I .1 (accepts-valid I passes cpe cpp counts inks e .valid)
+  input-ok = valid-iff I .1 (given .valid)
 
   room : length cpp ≡ 8450
-  room = accepts-valid I passes cpe cpp counts inks e .cpp-length
+  room = given .cpp-length
 
   pub refine-run : RunNumbers I passes cpp
-  refine-run = run-numbers I passes cpp input-ok room (accepts-valid I passes cpe cpp counts inks e .passes-most)
+  refine-run = run-numbers I passes cpp input-ok room (given .passes-most)
 
   accepted-numbers : RefinedNumbers I (refineAccepted I passes cpp counts)
   unfolding refineAccepted
@@ -57,11 +56,8 @@ module _ (I : Input) (passes : ℕ) (cpe cpp : List Float) (counts : List ℕ) (
         final = w .error;
       }
 
-  verdict-zero : judge (refineTests I passes (length cpe) (length cpp) (length counts) (length inks)) .number ≡ 0
-  verdict-zero = ap (λ (s : Status). s .number) (refine-valid-iff I passes (length cpe) (length cpp) (length counts) (length inks) .1 (accepts-valid I passes cpe cpp counts inks e))
-
   pub refine-numbers : RefinedNumbers I (refineOf I passes cpe cpp counts inks)
-  refine-numbers = subst (RefinedNumbers I) (accepted-is I passes cpe cpp counts inks verdict-zero) accepted-numbers
+  refine-numbers = let a = refine-answers I passes cpe cpp counts inks in rw (a .leaves (sym (a .told) ∙ e)) accepted-numbers
 
 -- ---- measure
 
@@ -80,21 +76,12 @@ measured-error I ok =
     (inks-within (I .palette)) (blur-within (sigmaPx alphaLum (I .params)) lum) (blur-within (sigmaPx alphaChroma (I .params)) chroma))
 
 -- an accepted measure
-module _ (I : Input) (e : measureOf I .number ≡ 0) where
-  number-is : measureOf I .number ≡ judge (inputTests I) .number
-  unfolding measureOf
-  number-is = go (eqb (judge (inputTests I) .number) 0) refl
-    where
-      go : (b : Bool) → eqb (judge (inputTests I) .number) 0 ≡ b → cond b (answer (measuredError I)) (refusal (judge (inputTests I))) .number ≡ judge (inputTests I) .number
-      go true q = sym (eqb-true _ _ q)
-      go false q = refl
-
+module _ (I : Input) (e : measureStatus (measureOf I) ≡ accepted) where
   passed : judge (inputTests I) ≡ accepted
-  passed = judge-zero (inputTests I) (input-numbered I) (sym number-is ∙ e)
+  passed = sym (measure-answers I .told) ∙ e
 
   error-is : measureOf I .error ≡ measuredError I
-  unfolding measureOf
-  error-is = rw passed
+  error-is = ap (λ (m : Measured). m .error) (measure-answers I .leaves passed)
 
   pub measure-numbers : MeasuredNumbers I
   measure-numbers = record {

@@ -26,8 +26,8 @@ use Rattle.bounds.specs.Number.{Number, Numbers}
 use Rattle.walkbounds.specs.Costs.{Weighed, comesTo}
 use Rattle.input.specs.Input.{Input}
 use Rattle.prepare.specs.Prepare.{tilingOf, inksOf, cppOf, sceneOf, cpeOf, errorOf, sharedOf, runOne}
-use Rattle.refine.specs.Refine.{Refinement, refineOf}
-use Rattle.perceived.specs.Perceived.{measureOf}
+use Rattle.refine.specs.Refine.{Refinement, refineStatus, refineOf}
+use Rattle.perceived.specs.Perceived.{measureStatus, measureOf}
 use Rattle.job.specs.Record.{jobShared}
 use Rattle.job.specs.Words.{decode}
 use Rattle.job.specs.Open.{Opening}
@@ -142,7 +142,7 @@ pub record JobRunNumbers (words : List ℕ) (O : Opening) : Type 0 where
 -- ---- THE STATEMENT
 
 pub record Finiteness : Type 0 where
-  pub refines : (I : Input) (passes : ℕ) (cpe cpp : List Float) (counts : List ℕ) (inks : List Float) → refineOf I passes cpe cpp counts inks .stats .number ≡ 0 →
+  pub refines : (I : Input) (passes : ℕ) (cpe cpp : List Float) (counts : List ℕ) (inks : List Float) → refineStatus (refineOf I passes cpe cpp counts inks) ≡ accepted →
       RunNumbers I passes cpp × RefinedNumbers I (refineOf I passes cpe cpp counts inks)
-  pub measures : (I : Input) → measureOf I .number ≡ 0 → MeasuredNumbers I
+  pub measures : (I : Input) → measureStatus (measureOf I) ≡ accepted → MeasuredNumbers I
   pub jobs : (words : List ℕ) (O : Opening) → openRun words O .status ≡ accepted → JobRunNumbers words O

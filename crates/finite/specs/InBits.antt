@@ -13,8 +13,8 @@ use Rattle.walk.specs.Walk.{Walk}
 use Rattle.bounds.specs.Number.{OneBits, SameBits, SameBitsAll}
 use Rattle.input.specs.Input.{Input}
 use Rattle.prepare.specs.Prepare.{tilingOf}
-use Rattle.refine.specs.Refine.{Refinement, refineOf}
-use Rattle.perceived.specs.Perceived.{measureOf}
+use Rattle.refine.specs.Refine.{Refinement, refineStatus, refineOf}
+use Rattle.perceived.specs.Perceived.{measureStatus, measureOf}
 use Rattle.job.specs.Words.{encode, rewritten}
 use Rattle.job.specs.Open.{Opening}
 use Rattle.job.specs.Boundary.{openRun}
@@ -65,9 +65,9 @@ AlongBits words O m J (c ∷ cs) =
     × AlongBits words O (closesAfter m J c) (after J c) cs
 
 pub record InBits : Type 0 where
-  pub refines : (I : Input) (passes : ℕ) (cpe cpp : List Float) (counts : List ℕ) (inks : List Float) → refineOf I passes cpe cpp counts inks .stats .number ≡ 0 →
+  pub refines : (I : Input) (passes : ℕ) (cpe cpp : List Float) (counts : List ℕ) (inks : List Float) → refineStatus (refineOf I passes cpe cpp counts inks) ≡ accepted →
       RefinedBits I (refineOf I passes cpe cpp counts inks)
-  pub measures : (I : Input) → measureOf I .number ≡ 0 → OneBits (measureOf I .error)
+  pub measures : (I : Input) → measureStatus (measureOf I) ≡ accepted → OneBits (measureOf I .error)
   pub opening : (words : List ℕ) (O : Opening) → openRun words O .status ≡ accepted →
       BufferBits (O .input) (openRun words O .cpe) (openRun words O .cpp) (openRun words O .inks) × JobBits words O (start words O) × SameInBits (start words O) (phases O 0)
   pub calls : (words : List ℕ) (O : Opening) → openRun words O .status ≡ accepted → (cs : List Call) → Fair words O (start words O) cs → AlongBits words O 0 (start words O) cs

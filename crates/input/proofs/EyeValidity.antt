@@ -21,7 +21,7 @@ passed : (b : Bool) → (not b ≡ false) ↔ T b
 passed true = (λ e. tt, λ t. refl)
 passed false = (λ e. absurd (true≢false e), λ t. absurd t)
 
-finite-positive-iff : (x : Float) → (not (isFinitePositive x) ≡ false) ↔ FinitePositive x
+pub finite-positive-iff : (x : Float) → (not (isFinitePositive x) ≡ false) ↔ FinitePositive x
 unfolding isFinitePositive
 finite-positive-iff nan = (λ e. absurd (true≢false e), λ f. absurd (f .finite))
 finite-positive-iff (inf s) = (λ e. absurd (true≢false e), λ f. absurd (f .finite))

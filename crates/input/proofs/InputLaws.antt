@@ -1,11 +1,9 @@
 -- What a caller of `check_input` knows by its answer: the list of tests is three lists one after the other, so that the judgement is their
 -- first refusal. Assumes nothing.
-use mathlib.Core.Path.{_≡_, refl, sym, ap, _∙_}
-use mathlib.Core.Bool.{Bool, true, false, cond}
+use mathlib.Core.Path.{_≡_, sym, ap, _∙_}
 use mathlib.Core.List.{List, _++_}
 use native.Mathlib.Omega.{arith}
 use borrow.Author.Tests.{eq-eqb, ne-eqb}
-use lib.Dec.{eqb}
 use lib.ListN.{length}
 use Rattle.base.specs.declared.Status.{Status}
 use Rattle.base.specs.Refusal.{Test, judge, accepted, firstRefusal}
@@ -14,6 +12,8 @@ use Rattle.eye.specs.Constants.{alphaLum, alphaChroma}
 use Rattle.eye.specs.Eye.{eye, eyeTests, eyeOf, kernelRadius}
 use Rattle.input.specs.Input.{Input, imageTests, inkTests, inputTests, checkedOf}
 use Rattle.base.proofs.JudgeLaws.{judge-append, judge-zero}
+use Rattle.base.proofs.AnswerLaws.{is-accepted, not-accepted}
+use Rattle.eye.proofs.EyeLaws.{radii-status}
 
 -- the first two of an input's lists
 abbrev pub imageTestsOf : Input → List Test
@@ -44,11 +44,7 @@ first-of-three I =
 
 pub checked-status : (I : Input) → checkedOf I .status ≡ judge (inputTests I)
 unfolding checkedOf
-checked-status I = go (judge (inputTests I)) (eqb (judge (inputTests I) .number) 0)
-  where
-    go : (s : Status) (b : Bool) → (cond b (eye s (kernelRadius alphaLum (I .params)) (kernelRadius alphaChroma (I .params))) (eye s 0 0)) .status ≡ s
-    go s true = refl
-    go s false = refl
+checked-status I = radii-status (judge (inputTests I)) (I .params)
 
 -- number 0 is the answer 0, 0
 pub checked-accepted : (I : Input) → checkedOf I .status .number ≡ 0 → judge (inputTests I) ≡ accepted
@@ -56,7 +52,7 @@ checked-accepted I e = judge-zero (inputTests I) (input-numbered I) (ap (λ (s :
 
 pub checked-refused : (I : Input) (s : Status) → judge (inputTests I) ≡ s → (s .number ≡ 0 → ⊥) → checkedOf I ≡ eye s 0 0
 unfolding checkedOf
-checked-refused I s e h = rw (e, ne-eqb (s .number) 0 h)
+checked-refused I s e h = rw (e, not-accepted s (λ q. h (ap (λ (u : Status). u .number) q)))
 
 pub checked-eye : (I : Input) → judge (inputTests I) ≡ judge (eyeTests (I .params)) → checkedOf I ≡ eyeOf (I .params)
 unfolding checkedOf eyeOf
@@ -64,7 +60,7 @@ checked-eye I e = rw e
 
 pub checked-radii : (I : Input) → judge (inputTests I) ≡ accepted → checkedOf I ≡ eye accepted (kernelRadius alphaLum (I .params)) (kernelRadius alphaChroma (I .params))
 unfolding checkedOf
-checked-radii I e = rw e
+checked-radii I e = rw (e, is-accepted)
 
 -- ---- a call that goes on to further tests, as refine and open do
 

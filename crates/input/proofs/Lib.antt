@@ -3,3 +3,4 @@ pub mod Limits
 mod EyeValidity
 pub mod InputLaws
 pub mod Validity
+pub mod RowsOf

@@ -7,7 +7,7 @@ use mathlib.Core.Bool.{Bool, true, false, not, _&&_, false≢true}
 use native.Mathlib.Omega.{arith}
 use borrow.Author.Tests.{leb-true, le-leb, eqb-true, eqb-false, eq-eqb, ne-eqb, not-false}
 use lib.Dec.{leb, eqb}
-use Rattle.input.specs.Input.{within, sizeFits, maskFits, paletteFits}
+use Rattle.input.specs.Input.{isWithin, sizeFits, maskFits, paletteFits}
 
 -- a test that passes is one whose opposite holds
 passes-iff : (b : Bool) → (not b ≡ false) ↔ (b ≡ true)
@@ -23,13 +23,13 @@ leb-iff m n = (leb-true m n, le-leb m n)
 eqb-iff : (m n : ℕ) → (eqb m n ≡ true) ↔ (m ≡ n)
 eqb-iff m n = (eqb-true m n, eq-eqb m n)
 
-within-iff : (low x high : ℕ) → (within low x high ≡ true) ↔ ((low ≤ x) × (x ≤ high))
+within-iff : (low x high : ℕ) → (isWithin low x high ≡ true) ↔ ((low ≤ x) × (x ≤ high))
 within-iff low x high = Iff·trans (and-iff (leb low x) (leb x high)) (Iff·and (leb-iff low x) (leb-iff x high))
 
 -- ---- rows 1 to 5, and a line of row 11
 
 pub size-iff : (w h : ℕ) → (not (sizeFits w h) ≡ false) ↔ (((1 ≤ w) × (w ≤ 4096)) × (h ≤ 4096))
-size-iff w h = Iff·trans (passes-iff (sizeFits w h)) (Iff·trans (and-iff (within 1 w 4096) (leb h 4096)) (Iff·and (within-iff 1 w 4096) (leb-iff h 4096)))
+size-iff w h = Iff·trans (passes-iff (sizeFits w h)) (Iff·trans (and-iff (isWithin 1 w 4096) (leb h 4096)) (Iff·and (within-iff 1 w 4096) (leb-iff h 4096)))
 
 pub length-iff : (len wanted : ℕ) → (not (eqb len wanted) ≡ false) ↔ (len ≡ wanted)
 length-iff len wanted = Iff·trans (passes-iff (eqb len wanted)) (eqb-iff len wanted)
@@ -50,4 +50,4 @@ mask-iff pinned n = Iff·trans (passes-iff (maskFits pinned n)) (to, from (eqb p
 pub palette-iff : (palette : ℕ) → (not (paletteFits palette) ≡ false) ↔ ((palette % 3 ≡ 0) × ((1 ≤ palette / 3) × (palette / 3 ≤ 256)))
 palette-iff palette =
     Iff·trans (passes-iff (paletteFits palette))
-    (Iff·trans (and-iff (eqb (palette % 3) 0) (within 1 (palette / 3) 256)) (Iff·and (eqb-iff (palette % 3) 0) (within-iff 1 (palette / 3) 256)))
+    (Iff·trans (and-iff (eqb (palette % 3) 0) (isWithin 1 (palette / 3) 256)) (Iff·and (eqb-iff (palette % 3) 0) (within-iff 1 (palette / 3) 256)))

@@ -52,9 +52,12 @@ of-valid I v =
     let named = of-named (inkCount I) (I .indices) (v .named) in
     (size, (pixels, (indices, (mask, (palette, (named, valid-eye (I .params) (v .eye)))))))
 
+pub valid-passes : (I : Input) → Passes (inputTests I) ↔ Valid I
+valid-passes I = (valid-of I, of-valid I)
+
 -- what measure accepts, given an empty mask, and refine and open before they look at a run's buffers
 pub valid-iff : (I : Input) → (judge (inputTests I) ≡ accepted) ↔ Valid I
-valid-iff I = Iff·trans (accepted-iff (inputTests I) (input-numbered I)) (valid-of I, of-valid I)
+valid-iff I = Iff·trans (accepted-iff (inputTests I) (input-numbered I)) (valid-passes I)
 
 -- ---- runs
 
@@ -82,7 +85,7 @@ module _ (I : Input) (passes cpe cpp counts inks : ℕ) where
       let counts-fit = length-iff counts passes .1 (v .counts-length) in
       (le-ltb 1000 passes (v .passes-most), (cpe-fits, (cpp-fits, (counts-fit, tt))))
 
-  refine-passes : Passes (refineTests I passes cpe cpp counts inks) ↔ ValidRefine I passes cpe cpp counts inks
+  pub refine-passes : Passes (refineTests I passes cpe cpp counts inks) ↔ ValidRefine I passes cpe cpp counts inks
   unfolding refineTests refineRunTests Passes
   refine-passes =
       let all = parts (inputTests I) (runTests passes (3 * pixelCount I) cpe cpp counts) (lengthTest 8 inks (3 * inkCount I) ∷ []) in (

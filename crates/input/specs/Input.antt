@@ -5,12 +5,10 @@ use mathlib.Core.Bool.{Bool, not, cond, _&&_, _||_}
 use mathlib.Core.List.{List, [], _∷_, _++_}
 use lib.Dec.{leb, ltb, eqb}
 use lib.ListN.{length}
-use Rattle.base.specs.declared.Status.{Status}
 use Rattle.base.specs.Refusal.{Test, test, judge}
 use Rattle.eye.specs.declared.DbsParams.{DbsParams}
 use Rattle.eye.specs.declared.Eye.{Eye}
-use Rattle.eye.specs.Constants.{alphaLum, alphaChroma}
-use Rattle.eye.specs.Eye.{eye, eyeTests, kernelRadius}
+use Rattle.eye.specs.Eye.{eyeTests, withRadii}
 
 -- Document 01's plane with its pixels, palette, indices and pin mask, and the eye record. Measuring has no mask: here an empty one.
 pub record Input : Type 0 where
@@ -36,12 +34,12 @@ inkCount I = length (I .palette) / 3
 
 -- ---- rows 1 to 9: an image, its halftone and the eye
 
-abbrev pub within : ℕ → ℕ → ℕ → Bool
-within low x high = leb low x && leb x high
+abbrev pub isWithin : ℕ → ℕ → ℕ → Bool
+isWithin low x high = leb low x && leb x high
 
 -- 'width w 1–4,096, height h 0–4,096'
 abbrev pub sizeFits : ℕ → ℕ → Bool
-sizeFits w h = within 1 w 4096 && leb h 4096
+sizeFits w h = isWithin 1 w 4096 && leb h 4096
 
 -- 'Pin mask: no bytes (nothing pinned), or n bytes'
 abbrev pub maskFits : ℕ → ℕ → Bool
@@ -49,7 +47,7 @@ maskFits pinned n = eqb pinned 0 || eqb pinned n
 
 -- '3 × (1–256) bytes'
 abbrev pub paletteFits : ℕ → Bool
-paletteFits palette = eqb (palette % 3) 0 && within 1 (palette / 3) 256
+paletteFits palette = eqb (palette % 3) 0 && isWithin 1 (palette / 3) 256
 
 -- the place of the first index that names none of n inks, or the length
 unfoldable pub firstUnnamed : ℕ → List ℕ → ℕ
@@ -80,12 +78,9 @@ inputTests I =
     ++ (inkTests (length (I .palette)) (I .indices)
     ++ eyeTests (I .params))
 
--- a judgement with both kernel radii, which are zeros where it is a refusal, as `eyeOf` has them
-abbrev pub answered : Status → DbsParams → Eye
-answered s p = cond (eqb (s .number) 0) (eye s (kernelRadius alphaLum p) (kernelRadius alphaChroma p)) (eye s 0 0)
-
+-- their judgement, and both kernel radii where it accepts
 unfoldable pub checkedOf : Input → Eye
-checkedOf I = answered (judge (inputTests I)) (I .params)
+checkedOf I = withRadii (judge (inputTests I)) (I .params)
 
 -- ---- rows 10 and 11: a run and the buffers lent to it
 

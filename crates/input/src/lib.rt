@@ -9,7 +9,7 @@ ghost use mathlib.Core.Path.{_≡_};
 ghost use mathlib.Core.List.{[], _∷_};
 ghost use Rattle.base.specs.Refusal.{test, judge, firstRefusal};
 ghost use Rattle.eye.specs.Eye.{eye};
-ghost use Rattle.input.specs.Input.{within, sizeFits, maskFits, paletteFits, firstUnnamed, imageTests, inkTests, input, checkedOf, lengthTest, runTests, refineRunTests, openRunTests};
+ghost use Rattle.input.specs.Input.{isWithin, sizeFits, maskFits, paletteFits, firstUnnamed, imageTests, inkTests, input, checkedOf, lengthTest, runTests, refineRunTests, openRunTests};
 
 // The largest width and height.
 const MAX_SIDE: u64 = 4096;
@@ -45,7 +45,7 @@ pub fn first_refusal(first: Status, second: Status) -> Status
 }
 
 pub fn is_within(low: u64, x: u64, high: u64) -> bool
-    ensures { λ r. ⌜ r ≡ within low x high ⌝ }
+    ensures { λ r. ⌜ r ≡ isWithin low x high ⌝ }
 {
     low <= x && x <= high
 }

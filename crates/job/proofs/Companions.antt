@@ -10,7 +10,7 @@ use lib.ListN.{length, take, drop}
 use lib.Seq.{take-append-seam}
 use lib.Dec.{T, eqb}
 use Rattle.base.specs.Loop.{upTo, overwrite}
-use Rattle.base.specs.Refusal.{accepted}
+use Rattle.base.specs.Refusal.{accepted, isAccepted}
 use Rattle.tiling.specs.Tiling.{tiles, inPhase}
 use Rattle.input.proofs.Validity.{refine-valid-iff}
 use Rattle.prepare.specs.Prepare.{tilingOf, errorOf, sharedOf, runOne}
@@ -52,7 +52,7 @@ at-end O m e = go (decLe m (4 * O .passes))
     go (no h) = let k : m ≡ 4 * O .passes + (m - 4 * O .passes) = omega (arith, h) in rw k (sym (stays O (4 * O .passes) _ (ends O)))
 
 pub as-refined : AsRefined
-unfolding refineOf refineAccepted stored overwrite
+unfolding refineOf isAccepted refineAccepted stored overwrite
 as-refined words O ok m J s f =
     let w = at-end O m (sym (s .ended) ∙ f) in
     let passes = refine-valid-iff (O .input) (O .passes) (length (O .cpe)) (length (O .cpp)) (length (O .counts)) (length (O .inks)) .1 (valid O (opens words O ok) .refine) in

@@ -14,3 +14,5 @@ pub mod Companions
 pub mod Copies
 pub mod Progress
 pub mod Cases
+pub mod RowsOf
+pub mod Demand1

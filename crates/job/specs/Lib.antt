@@ -8,6 +8,8 @@ pub mod PutBack
 pub mod Close
 pub mod Valid
 pub mod Boundary
+pub mod Rows
+pub mod Demand1
 pub mod Runs
 pub mod Claim
 pub mod Companions

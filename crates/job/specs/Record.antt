@@ -10,7 +10,7 @@ use lib.Ieee.{Float}
 use Rattle.base.specs.Refusal.{Test, test}
 use Rattle.tiling.specs.Tiling.{tiles, inPhase}
 use Rattle.search.specs.Shared.{Shared, shared}
-use Rattle.input.specs.Input.{within, sizeFits}
+use Rattle.input.specs.Input.{isWithin, sizeFits}
 use Rattle.job.specs.declared.JobRecord.{JobRecord}
 
 -- 'n = w·h'
@@ -23,13 +23,13 @@ jobShared r pinned inks cpp = shared (r .plan .tiling) (r .plan .inks) pinned in
 
 -- 'an odd radius or one outside 2–32'
 unfoldable pub radiusFits : ℕ → Bool
-radiusFits R = eqb (R % 2) 0 && within 2 R 32
+radiusFits R = eqb (R % 2) 0 && isWithin 2 R 32
 
 -- row 12 of a record: 'a value outside its limits, .. done passes above allowed, unfinished with none remaining, accepted above n'
 unfoldable pub recordTests : JobRecord → List Test
 recordTests r =
     test (not (sizeFits (r .plan .tiling .width) (r .plan .tiling .height))) 12 0
-    ∷ test (not (within 1 (r .plan .inks) 256)) 12 0
+    ∷ test (not (isWithin 1 (r .plan .inks) 256)) 12 0
     ∷ test (not (radiusFits (r .plan .tiling .lum))) 12 0
     ∷ test (not (radiusFits (r .plan .tiling .chroma))) 12 0
     ∷ test (ltb 1000 (r .plan .allowed)) 12 0

@@ -18,7 +18,7 @@ use Rattle.input.specs.Input.{Input, pixelCount, inkCount, inputTests, checkedO
 use Rattle.input.specs.Valid.{Valid, ValidOpen}
 use Rattle.input.proofs.InputLaws.{input-numbered, checked-status, checked-accepted}
 use Rattle.input.proofs.Validity.{valid-iff, valid-radii, open-passes}
-use Rattle.prepare.specs.Prepare.{Accepts, Prepared, tilingOf}
+use Rattle.prepare.specs.Prepare.{ReadyToPrepare, Prepared, tilingOf}
 use Rattle.refine.proofs.Laws.{tiling-is}
 use Rattle.job.specs.Open.{Opening, opened, openTestsOf, firstRecord, openOf}
 use Rattle.job.proofs.Answers.{open-answers}
@@ -67,7 +67,7 @@ module _ (O : Opening) (s : Status) (e : s ≡ judge (openTestsOf O)) (z : s .nu
   unfolding openTestsOf
   valid-open = open-passes _ _ _ _ _ _ _ _ _ .0 (open-answers O .passed s e z)
 
-  pub accepts : (T : Tiling) → T ≡ tilingOf (O .input) → Accepts (O .input) T (length (O .inks)) (length (O .cpp)) (length (O .cpe))
+  pub accepts : (T : Tiling) → T ≡ tilingOf (O .input) → ReadyToPrepare (O .input) T (length (O .inks)) (length (O .cpp)) (length (O .cpe))
   accepts T t =
       let v = valid-open in
       record {

@@ -1,29 +1,35 @@
 -- What an accepted input gives: narrow blurs, a scene that fits, and an answer that is its error; a refused one answers its refusal. Assumes nothing.
 use Prim.Native.Nat.{ℕ, _+_, _*_, _≤_}
 use native.Mathlib.Omega.{arith}
-use mathlib.Core.Path.{_≡_, sym, ap, _∙_}
+use mathlib.Core.Path.{_≡_, refl, sym, ap, _∙_}
 use mathlib.Core.List.{List, []}
 use lib.ListN.{length}
 use lib.Ieee.{Float}
-use borrow.Author.Tests.{eq-eqb, ne-eqb}
+use Rattle.base.specs.declared.Status.{Status}
+use Rattle.base.specs.F64.{f0}
 use Rattle.base.specs.Refusal.{judge, accepted}
+use Rattle.base.specs.Rows.{Judged}
 use Rattle.base.proofs.RefusalLaws.{passes-of}
 use Rattle.base.proofs.TableLaws.{length-table}
 use Rattle.color.specs.Inks.{inkValues}
 use Rattle.color.proofs.InkLaws.{length-inks}
+use Rattle.eye.specs.declared.DbsParams.{DbsParams}
 use Rattle.eye.specs.declared.Eye.{Eye}
 use Rattle.eye.specs.Constants.{alphaLum, alphaChroma}
 use Rattle.eye.specs.Eye.{sigmaPx, blurRadius, Narrow, eyeTests}
 use Rattle.eye.proofs.EyeLaws.{narrow-both}
 use Rattle.kernel.specs.Kernel.{values, gaussianLine, blurOf, gaussianBlur}
 use Rattle.error.specs.Error.{scene, SceneFits}
-use Rattle.input.specs.Input.{Input, pixelCount, inputTests, imageTests, inkTests, checkedOf}
+use Rattle.input.specs.Input.{Input, input, pixelCount, inputTests, imageTests, inkTests, checkedOf}
 use Rattle.input.specs.Valid.{Valid}
+use Rattle.input.specs.Rows.{measureRows}
 use Rattle.input.proofs.InputLaws.{input-numbered, checked-status}
-use Rattle.base.proofs.JudgeLaws.{passes-append}
-use Rattle.input.proofs.Validity.{valid-iff}
+use Rattle.base.proofs.JudgeLaws.{passes-append, judge-zero}
+use Rattle.base.proofs.AnswerLaws.{Answers, answers, judged}
+use Rattle.input.proofs.Validity.{valid-iff, valid-passes}
+use Rattle.input.proofs.RowsOf.{measure-rows}
 use Rattle.measure.specs.Measure.{frame, perceivedOf, FrameFits}
-use Rattle.perceived.specs.Perceived.{Blur, errorOf, answer, refusal, measureOf}
+use Rattle.perceived.specs.Perceived.{Blur, measuredError, measureStatus, measuredAs, refusal, measureOf}
 
 length-line : (sigma : Float) (r : ℕ) → length (gaussianLine sigma r) ≡ 2 * r + 1
 unfolding gaussianLine
@@ -75,20 +81,31 @@ module _ (I : Input) (ok : judge (inputTests I) ≡ accepted) where
 -- what the code makes, step by step, is its error
 pub error-is : (I : Input) (inks lum : List Float) (rLum : ℕ) (chroma : List Float) (rChroma : ℕ) → inks ≡ inkValues (I .palette) →
     Blur (sigmaPx alphaLum (I .params)) lum rLum → Blur (sigmaPx alphaChroma (I .params)) chroma rChroma →
-    perceivedOf (I .width) (I .height) (I .pixels) (I .indices) inks lum rLum chroma rChroma ≡ errorOf I
-unfolding errorOf
+    perceivedOf (I .width) (I .height) (I .pixels) (I .indices) inks lum rLum chroma rChroma ≡ measuredError I
+unfolding measuredError
 error-is I inks lum rLum chroma rChroma e l c = rw (e, l .values-are, l .radius-is, c .values-are, c .radius-is)
 
--- ---- the answer to an input whose tests gave `e`
+-- ---- the answer
+
+pub measure-answers : (I : Input) → Answers measureStatus (judge (inputTests I)) (measuredAs (measuredError I)) refusal (measureOf I)
+unfolding measureOf
+measure-answers I = answers measureStatus refusal (λ s. refl) (judge (inputTests I)) (λ s. measuredAs (measuredError I)) refl
+
+-- demand 1 of measuring: the input has no mask
+pub measure-judged : (width height : ℕ) (pixels palette indices : List ℕ) (params : DbsParams) →
+    let I = input width height pixels palette indices [] params in Judged measureStatus (Valid I) (λ s. record { number = s .number; place = s .place; error = f0 }) (measureRows I) (measureOf I)
+measure-judged width height pixels palette indices params =
+    let I = input width height pixels palette indices [] params in
+    judged (measure-answers I) (input-numbered I) (valid-passes I) (measure-rows width height pixels palette indices params)
+
+-- of an input whose tests gave `e`
 
 module _ (I : Input) (e : Eye) (q : e ≡ checkedOf I) where
   verdict : judge (inputTests I) ≡ e .status
   verdict = sym (checked-status I) ∙ ap (λ (v : Eye). v .status) (sym q)
 
   pub refused-is : (e .status .number ≡ 0 → ⊥) → refusal (e .status) ≡ measureOf I
-  unfolding measureOf
-  refused-is n = rw (verdict, ne-eqb _ _ n)
+  refused-is n = rw (← verdict) (sym (measure-answers I .keeps (λ a. n (ap (λ (s : Status). s .number) (sym verdict ∙ a)))))
 
-  pub accepted-is : e .status .number ≡ 0 → answer (errorOf I) ≡ measureOf I
-  unfolding measureOf
-  accepted-is z = rw (verdict, eq-eqb _ _ z)
+  pub accepted-is : e .status .number ≡ 0 → measuredAs (measuredError I) ≡ measureOf I
+  accepted-is z = sym (measure-answers I .leaves (judge-zero (inputTests I) (input-numbered I) (ap (λ (s : Status). s .number) verdict ∙ z)))

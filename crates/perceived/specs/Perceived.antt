@@ -3,12 +3,11 @@ use mathlib.Core.Path.{_≡_}
 use mathlib.Core.Bool.{cond}
 use mathlib.Core.List.{List}
 use Prim.Native.Nat.{ℕ, _≤_}
-use lib.Dec.{eqb}
 use lib.ListN.{length}
 use lib.Ieee.{Float}
 use Rattle.base.specs.declared.Status.{Status}
 use Rattle.base.specs.F64.{f0}
-use Rattle.base.specs.Refusal.{judge, accepted}
+use Rattle.base.specs.Refusal.{judge, status, accepted, isAccepted}
 use Rattle.color.specs.Inks.{inkValues}
 use Rattle.eye.specs.Constants.{alphaLum, alphaChroma}
 use Rattle.eye.specs.Eye.{sigmaPx, blurRadius}
@@ -19,15 +18,19 @@ use Rattle.perceived.specs.declared.Measured.{Measured}
 
 -- 'Measuring is `perceived_error`, rows summed top to bottom; it ignores pins': of an accepted input, through both blurs of its eye,
 -- of which 'Width σ is `eye_sigma_px`; reach is the larger of 1 and ceil(2.5σ)'
-unfoldable pub errorOf : Input → Float
-errorOf I =
+unfoldable pub measuredError : Input → Float
+measuredError I =
     let lum = sigmaPx alphaLum (I .params) in
     let chroma = sigmaPx alphaChroma (I .params) in
     perceivedOf (I .width) (I .height) (I .pixels) (I .indices) (inkValues (I .palette)) (gaussianBlur lum) (blurRadius lum) (gaussianBlur chroma) (blurRadius chroma)
 
+-- the number and place of an answer
+abbrev pub measureStatus : Measured → Status
+measureStatus m = status (m .number) (m .place)
+
 -- 'success is 0, 0'
-abbrev pub answer : Float → Measured
-answer error = record { number = 0; place = 0; error = error }
+abbrev pub measuredAs : Float → Measured
+measuredAs error = record { number = 0; place = 0; error = error }
 
 -- 'A refusal ..; passes, counts, errors .. are then zeros'
 abbrev pub refusal : Status → Measured
@@ -36,7 +39,7 @@ refusal s = record { number = s .number; place = s .place; error = f0 }
 -- 'measure (none) test 1 to 11 in number order, each what it is given': it is given neither passes nor buffers, so 10 and 11 do not apply.
 -- 'Width 0 is refused, also for measuring, where the Rust returns 0.'
 unfoldable pub measureOf : Input → Measured
-measureOf I = let s = judge (inputTests I) in let error = errorOf I in cond (eqb (s .number) 0) (answer error) (refusal s)
+measureOf I = let s = judge (inputTests I) in let error = measuredError I in cond (isAccepted s) (measuredAs error) (refusal s)
 
 -- ---- what the inner functions leave and require
 
@@ -47,7 +50,7 @@ pub record Blur (sigma : Float) (blur : List Float) (r : ℕ) : Type 0 where
   pub most : r ≤ 16
 
 -- an accepted input, and slices just as long as the ink values and both blurs
-pub record Accepts (I : Input) (inks lum chroma : ℕ) : Type 0 where
+pub record ReadyToMeasure (I : Input) (inks lum chroma : ℕ) : Type 0 where
   pub passes : judge (inputTests I) ≡ accepted
   pub inks-length : inks ≡ length (I .palette)
   pub lum-length : lum ≡ values (blurRadius (sigmaPx alphaLum (I .params)))

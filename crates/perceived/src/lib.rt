@@ -12,7 +12,7 @@ ghost use Rattle.color.specs.Lut.{srgbToLinear};
 ghost use Rattle.eye.specs.Eye.{sigmaPx, blurRadius, Narrow};
 ghost use Rattle.kernel.specs.Kernel.{values};
 ghost use Rattle.input.specs.Input.{input, inputTests};
-ghost use Rattle.perceived.specs.Perceived.{Blur, Accepts, errorOf, measureOf};
+ghost use Rattle.perceived.specs.Perceived.{Blur, ReadyToMeasure, measuredError, measureOf};
 
 // The perceived error, or a refusal with a zero.
 #[repr(C)]
@@ -57,8 +57,8 @@ fn perceived_with(
     blur_chroma: &mut [f64],
 ) -> f64
     requires { ⌜ now lut ≡ srgbToLinear ⌝ }
-    requires { ⌜ Accepts (input width height (now pixels) (now palette) (now indices) [] params) (length (now inks)) (length (now «blur_lum»)) (length (now «blur_chroma»)) ⌝ }
-    ensures { λ r. ⌜ r ≡ errorOf (input width height (now (pixels .entry)) (now (palette .entry)) (now (indices .entry)) [] params) ⌝ }
+    requires { ⌜ ReadyToMeasure (input width height (now pixels) (now palette) (now indices) [] params) (length (now inks)) (length (now «blur_lum»)) (length (now «blur_chroma»)) ⌝ }
+    ensures { λ r. ⌜ r ≡ measuredError (input width height (now (pixels .entry)) (now (palette .entry)) (now (indices .entry)) [] params) ⌝ }
 {
     color::palette_to_inks(lut, palette, inks);
     let r_lum = eye_blur(ALPHA_LUM, params, blur_lum);
@@ -93,7 +93,7 @@ fn perceived_in(
     requires { ⌜ now lut ≡ srgbToLinear ⌝ }
     requires { ⌜ judge (inputTests (input width height (now pixels) (now palette) (now indices) [] params)) ≡ accepted ⌝ }
     requires { ⌜ (length (now inks) ≡ 768) × (length (now «blur_lum») ≡ 1089) × (length (now «blur_chroma») ≡ 1089) ⌝ }
-    ensures { λ r. ⌜ r ≡ errorOf (input width height (now (pixels .entry)) (now (palette .entry)) (now (indices .entry)) [] params) ⌝ }
+    ensures { λ r. ⌜ r ≡ measuredError (input width height (now (pixels .entry)) (now (palette .entry)) (now (indices .entry)) [] params) ⌝ }
 {
     let inks_len = palette.len();
     let lum_len = blur_len(ALPHA_LUM, params);
@@ -122,7 +122,7 @@ fn perceived_error(
     params: DbsParams,
 ) -> f64
     requires { ⌜ judge (inputTests (input width height (now pixels) (now palette) (now indices) [] params)) ≡ accepted ⌝ }
-    ensures { λ r. ⌜ r ≡ errorOf (input width height (now (pixels .entry)) (now (palette .entry)) (now (indices .entry)) [] params) ⌝ }
+    ensures { λ r. ⌜ r ≡ measuredError (input width height (now (pixels .entry)) (now (palette .entry)) (now (indices .entry)) [] params) ⌝ }
 {
     let lut = color::srgb_to_linear_lut();
     let mut inks = [0.0f64; 768];

@@ -51,7 +51,7 @@ runOne I passes cpp n = walkAt (sharedOf I cpp) passes (walkStart passes (cpeOf 
 -- ---- what the code asks for, and what it leaves
 
 -- an accepted input, its tiling, and buffers of the right lengths
-pub record Accepts (I : Input) (T : Tiling) (inks cpp cpe : ℕ) : Type 0 where
+pub record ReadyToPrepare (I : Input) (T : Tiling) (inks cpp cpe : ℕ) : Type 0 where
   pub passes : judge (inputTests I) ≡ accepted
   pub tiling : T ≡ tilingOf I
   pub inks-length : inks ≡ 3 * inkCount I

@@ -7,7 +7,7 @@ ghost use Prim.Native.Nat.{_*_};
 ghost use lib.ListN.{length};
 ghost use Rattle.color.specs.Lut.{srgbToLinear};
 ghost use Rattle.input.specs.Input.{input};
-ghost use Rattle.prepare.specs.Prepare.{Accepts, Prepared};
+ghost use Rattle.prepare.specs.Prepare.{ReadyToPrepare, Prepared};
 
 fn prepare_with(
     lut: &[u64; 256],
@@ -22,7 +22,7 @@ fn prepare_with(
     cpe: &mut [f64],
 ) -> f64
     requires { ⌜ now lut ≡ srgbToLinear ⌝ }
-    requires { ⌜ Accepts (input (t .width) (t .height) (now pixels) (now palette) (now indices) (now pinned) params) t (length (now inks)) (length (now cpp)) (length (now cpe)) ⌝ }
+    requires { ⌜ ReadyToPrepare (input (t .width) (t .height) (now pixels) (now palette) (now indices) (now pinned) params) t (length (now inks)) (length (now cpp)) (length (now cpe)) ⌝ }
     ensures { λ r. ⌜ Prepared (input (t .width) (t .height) (now (pixels .entry)) (now (palette .entry)) (now (indices .entry)) (now (pinned .entry)) params) (now (cpp .entry)) (now (inks .exit)) (now (cpp .exit)) (now (cpe .exit)) r ⌝ }
 {
     color::palette_to_inks(lut, palette, inks);
@@ -43,7 +43,7 @@ pub fn prepare(
     cpp: &mut [f64],
     cpe: &mut [f64],
 ) -> f64
-    requires { ⌜ Accepts (input (t .width) (t .height) (now pixels) (now palette) (now indices) (now pinned) params) t (length (now inks)) (length (now cpp)) (length (now cpe)) ⌝ }
+    requires { ⌜ ReadyToPrepare (input (t .width) (t .height) (now pixels) (now palette) (now indices) (now pinned) params) t (length (now inks)) (length (now cpp)) (length (now cpe)) ⌝ }
     ensures { λ r. ⌜ Prepared (input (t .width) (t .height) (now (pixels .entry)) (now (palette .entry)) (now (indices .entry)) (now (pinned .entry)) params) (now (cpp .entry)) (now (inks .exit)) (now (cpp .exit)) (now (cpe .exit)) r ⌝ }
 {
     let lut = color::srgb_to_linear_lut();

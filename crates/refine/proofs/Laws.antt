@@ -7,7 +7,7 @@ use mathlib.Core.List.{List}
 use lib.ListN.{length}
 use lib.Dec.{eqb}
 use lib.Ieee.{Float}
-use borrow.Author.Tests.{eq-eqb, ne-eqb, eqb-true}
+use borrow.Author.Tests.{eqb-true}
 use Rattle.base.specs.declared.Status.{Status}
 use Rattle.base.specs.Refusal.{judge, accepted, Passes}
 use Rattle.base.proofs.RefusalLaws.{Numbered, passes-of}
@@ -19,12 +19,14 @@ use Rattle.eye.specs.Eye.{kernelRadius, eye}
 use Rattle.input.specs.Input.{Input, input, pixelCount, inkCount, inputTests, checkedOf, runTests, refineRunTests, refineTests}
 use Rattle.input.proofs.InputLaws.{checked-accepted, checked-radii, input-refused, input-accepted}
 use Rattle.base.proofs.JudgeLaws.{judge-zero}
+use Rattle.base.proofs.AnswerLaws.{Answers, answers}
+use Rattle.input.proofs.Validity.{refine-numbered}
 use Rattle.search.specs.Shared.{shared, Ready}
 use Rattle.walk.specs.declared.Outcome.{Outcome}
 use Rattle.walk.specs.Walk.{walkEnd, Refines}
 use Rattle.prepare.specs.Prepare.{Prepared, tilingOf, sharedOf, runOne}
 use Rattle.prepare.proofs.Laws.{start-ready}
-use Rattle.refine.specs.Refine.{refinement, refusedStats, refineAccepted, refineOf}
+use Rattle.refine.specs.Refine.{refinement, refineStatus, refusedStats, refineAccepted, refineOf}
 
 -- ---- the tests
 
@@ -46,10 +48,13 @@ module _ (I : Input) (passes : ℕ) (cpe cpp : List Float) (counts : List ℕ) (
   abbrev run : Status
   run = judge (refineRunTests passes (3 * pixelCount I) (3 * inkCount I) (length cpe) (length cpp) (length counts) (length inks))
 
+  pub refine-answers : Answers refineStatus verdict (refineAccepted I passes cpp counts) (λ s. refinement (refusedStats s) (I .indices) cpe cpp counts inks) (refineOf I passes cpe cpp counts inks)
+  unfolding refineOf refineAccepted
+  refine-answers = answers refineStatus (λ s. refinement (refusedStats s) (I .indices) cpe cpp counts inks) (λ s. refl) verdict (λ s. refineAccepted I passes cpp counts) refl
+
   -- a refusal of either
   pub refused-is : (s : Status) → verdict ≡ s → (s .number ≡ 0 → ⊥) → refinement (refusedStats s) (I .indices) cpe cpp counts inks ≡ refineOf I passes cpe cpp counts inks
-  unfolding refineOf
-  refused-is s e n = rw (e, ne-eqb _ _ n)
+  refused-is s e n = rw (← e) (sym (refine-answers .keeps (λ a. n (ap (λ (u : Status). u .number) (sym e ∙ a)))))
 
   pub input-verdict : (checkedOf I .status .number ≡ 0 → ⊥) → verdict ≡ checkedOf I .status
   unfolding refineTests
@@ -61,8 +66,7 @@ module _ (I : Input) (passes : ℕ) (cpe cpp : List Float) (counts : List ℕ) (
 
   -- both accepted
   pub accepted-is : verdict .number ≡ 0 → refineAccepted I passes cpp counts ≡ refineOf I passes cpe cpp counts inks
-  unfolding refineOf
-  accepted-is e = rw (eq-eqb _ _ e)
+  accepted-is e = sym (refine-answers .leaves (judge-zero _ (refine-numbered I passes (length cpe) (length cpp) (length counts) (length inks)) e))
 
   -- the lengths of the buffers
   pub record Lengths : Type 0 where

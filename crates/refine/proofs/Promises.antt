@@ -1,21 +1,22 @@
 -- What `refineOf` promises a user, read off the definitions: it accepts exactly the valid inputs; a refusal leaves every slice; the walk of an accepted input ends,
 -- with passes left only after a pass of no move; pinned indices stay and every index names an ink, after every phase. Assumes nothing.
 use Prim.Native.Nat.{ℕ, _*_}
-use mathlib.Core.Path.{_≡_, refl, sym, ap, _∙_}
-use mathlib.Core.Bool.{Bool, true, false, cond}
+use mathlib.Core.Path.{_≡_, sym, _∙_}
+use mathlib.Core.Bool.{true}
 use mathlib.Core.List.{List}
 use lib.ListN.{length}
-use lib.Dec.{eqb}
 use lib.Ieee.{Float}
-use borrow.Author.Tests.{eq-eqb, ne-eqb, eqb-true}
-use Rattle.base.specs.declared.Status.{Status}
+use Rattle.base.specs.F64.{f0}
 use Rattle.base.specs.Grid.{Inside}
-use Rattle.base.specs.Refusal.{judge, accepted}
+use Rattle.base.specs.Refusal.{accepted}
+use Rattle.base.specs.Rows.{Judged}
 use Rattle.tiling.specs.Tiling.{image}
-use Rattle.input.specs.Input.{Input, inkCount, refineTests}
+use Rattle.input.specs.Input.{Input, inkCount}
 use Rattle.input.specs.Valid.{Valid, ValidRefine}
-use Rattle.base.proofs.JudgeLaws.{judge-zero}
-use Rattle.input.proofs.Validity.{valid-iff, refine-valid-iff, refine-numbered}
+use Rattle.input.specs.Rows.{refineRows}
+use Rattle.base.proofs.AnswerLaws.{judged}
+use Rattle.input.proofs.Validity.{valid-iff, refine-passes, refine-numbered}
+use Rattle.input.proofs.RowsOf.{refine-rows}
 use Rattle.pins.specs.Pins.{pinnedAt}
 use Rattle.search.specs.Shared.{indexAt, Named}
 use Rattle.walk.specs.Promises.{Settled}
@@ -23,7 +24,8 @@ use Rattle.walk.specs.Walk.{walkEnd}
 use Rattle.walk.proofs.Ends.{walk-settled, walk-ends, walk-sound}
 use Rattle.prepare.specs.Prepare.{tilingOf, cpeOf, sharedOf, errorOf, runOne}
 use Rattle.prepare.proofs.Laws.{start-ready}
-use Rattle.refine.specs.Refine.{Refinement, refinement, refusedStats, refineOf, refineAccepted}
+use Rattle.refine.specs.Refine.{refinement, refineStatus, refineOf, refineAccepted}
+use Rattle.refine.proofs.Laws.{refine-answers}
 
 -- ---- the walk of an accepted input
 
@@ -53,37 +55,19 @@ run-kept I passes cpp v e n =
 -- ---- the answer
 
 module _ (I : Input) (passes : ℕ) (cpe cpp : List Float) (counts : List ℕ) (inks : List Float) where
-  abbrev verdict : Status
-  verdict = judge (refineTests I passes (length cpe) (length cpp) (length counts) (length inks))
-
-  abbrev answer : Refinement
-  answer = refineOf I passes cpe cpp counts inks
-
-  number-is : answer .stats .number ≡ verdict .number
-  unfolding refineOf refineAccepted
-  number-is = go (eqb (verdict .number) 0) refl
-    where
-      go : (b : Bool) → eqb (verdict .number) 0 ≡ b → cond b (refineAccepted I passes cpp counts) (refinement (refusedStats verdict) (I .indices) cpe cpp counts inks) .stats .number ≡ verdict .number
-      go true e = sym (eqb-true _ _ e)
-      go false e = refl
-
-  -- 'an input is accepted exactly where it is valid'
-  pub accepts-valid : answer .stats .number ≡ 0 → ValidRefine I passes (length cpe) (length cpp) (length counts) (length inks)
-  accepts-valid e =
-      refine-valid-iff I passes (length cpe) (length cpp) (length counts) (length inks) .0
-      (judge-zero (refineTests I passes (length cpe) (length cpp) (length counts) (length inks)) (refine-numbered I passes (length cpe) (length cpp) (length counts) (length inks)) (sym number-is ∙ e))
-
-  pub valid-accepted : ValidRefine I passes (length cpe) (length cpp) (length counts) (length inks) → answer .stats .number ≡ 0
-  valid-accepted v = number-is ∙ ap (λ (s : Status). s .number) (refine-valid-iff I passes (length cpe) (length cpp) (length counts) (length inks) .1 v)
-
-  -- a refusal leaves every slice as it was given, and the other members are zero
-  pub refusal-keeps : (answer .stats .number ≡ 0 → ⊥) → answer ≡ refinement (refusedStats verdict) (I .indices) cpe cpp counts inks
-  unfolding refineOf
-  refusal-keeps n = rw (ne-eqb _ _ (λ z. n (number-is ∙ z)))
+  -- demand 1 of refining
+  pub refine-judged : Judged refineStatus (ValidRefine I passes (length cpe) (length cpp) (length counts) (length inks))
+      (λ s. refinement (record { number = s .number; place = s .place; passes = 0; «initial_error» = f0; «final_error» = f0 }) (I .indices) cpe cpp counts inks)
+      (refineRows I passes (length cpe) (length cpp) (length counts) (length inks))
+      (refineOf I passes cpe cpp counts inks)
+  refine-judged =
+      judged (refine-answers I passes cpe cpp counts inks) (refine-numbered I passes (length cpe) (length cpp) (length counts) (length inks))
+      (refine-passes I passes (length cpe) (length cpp) (length counts) (length inks)) (refine-rows I passes (length cpe) (length cpp) (length counts) (length inks))
 
   -- an accepted input's indices
-  pub accepted-kept : answer .stats .number ≡ 0 → Kept I (answer .indices)
-  unfolding refineOf refineAccepted
+  pub accepted-kept : refineStatus (refineOf I passes cpe cpp counts inks) ≡ accepted → Kept I (refineOf I passes cpe cpp counts inks .indices)
+  unfolding refineAccepted
   accepted-kept e =
-      let v = accepts-valid e in
-      rw (eq-eqb _ _ (sym number-is ∙ e)) (run-kept I passes cpp (v .valid) (v .cpp-length) (4 * passes))
+      let v = refine-judged .accepts .0 e in
+      let a = refine-answers I passes cpe cpp counts inks in
+      rw (a .leaves (sym (a .told) ∙ e)) (run-kept I passes cpp (v .valid) (v .cpp-length) (4 * passes))

@@ -2,11 +2,10 @@
 use mathlib.Core.Bool.{cond}
 use mathlib.Core.List.{List}
 use Prim.Native.Nat.{ℕ, _*_}
-use lib.Dec.{eqb}
 use lib.ListN.{length}
 use lib.Ieee.{Float}
 use Rattle.base.specs.declared.Status.{Status}
-use Rattle.base.specs.Refusal.{judge}
+use Rattle.base.specs.Refusal.{judge, status, isAccepted}
 use Rattle.base.specs.Loop.{overwrite}
 use Rattle.base.specs.F64.{f0}
 use Rattle.input.specs.Input.{Input, refineTests}
@@ -24,6 +23,10 @@ pub record Refinement : Type 0 where
 
 abbrev pub refinement : DbsStats → List ℕ → List Float → List Float → List ℕ → List Float → Refinement
 refinement stats indices cpe cpp counts inks = record { stats = stats; indices = indices; cpe = cpe; cpp = cpp; counts = counts; inks = inks }
+
+-- the number and place of an answer
+abbrev pub refineStatus : Refinement → Status
+refineStatus R = status (R .stats .number) (R .stats .place)
 
 -- 'A refusal changes no buffer ..; passes, counts, errors .. are then zeros'
 abbrev pub refusedStats : Status → DbsStats
@@ -45,4 +48,4 @@ refineOf I passes cpe cpp counts inks =
     let s = judge (refineTests I passes (length cpe) (length cpp) (length counts) (length inks)) in
     let done = refineAccepted I passes cpp counts in
     let left = refinement (refusedStats s) (I .indices) cpe cpp counts inks in
-    cond (eqb (s .number) 0) done left
+    cond (isAccepted s) done left

@@ -6,7 +6,7 @@ ghost use mathlib.Core.Path.{_≡_};
 ghost use Prim.Native.Nat.{_*_};
 ghost use lib.ListN.{length};
 ghost use Rattle.input.specs.Input.{input, inkCount};
-ghost use Rattle.prepare.specs.Prepare.{Accepts};
+ghost use Rattle.prepare.specs.Prepare.{ReadyToPrepare};
 ghost use Rattle.refine.specs.Refine.{refinement, refusedStats, refineAccepted, refineOf};
 
 // Diagnostics of a run, or a refusal with zeros.
@@ -47,7 +47,7 @@ fn refine_accepted(
     accepted_per_pass: &mut [u32],
     inks: &mut [f64],
 ) -> DbsStats
-    requires { ⌜ Accepts (input (t .width) (t .height) (now pixels) (now palette) (now indices) (now pinned) params) t (length (now inks)) (length (now cpp)) (length (now cpe)) ⌝ }
+    requires { ⌜ ReadyToPrepare (input (t .width) (t .height) (now pixels) (now palette) (now indices) (now pinned) params) t (length (now inks)) (length (now cpp)) (length (now cpe)) ⌝ }
     ensures { λ r. ⌜ refinement r (now (indices .exit)) (now (cpe .exit)) (now (cpp .exit)) (now («accepted_per_pass» .exit)) (now (inks .exit)) ≡ refineAccepted (input (t .width) (t .height) (now (pixels .entry)) (now (palette .entry)) (now (indices .entry)) (now (pinned .entry)) params) (length (now («accepted_per_pass» .entry))) (now (cpp .entry)) (now («accepted_per_pass» .entry)) ⌝ }
 {
     let error = prepare::prepare(pixels, palette, indices, pinned, params, t, inks, cpp, cpe);

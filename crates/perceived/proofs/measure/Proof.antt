@@ -5,7 +5,7 @@ use borrow.Author.Needs.{needs}
 use Rattle.eye.specs.declared.Eye.{Eye}
 use Rattle.input.specs.Input.{Input, input}
 use Rattle.input.proofs.InputLaws.{checked-accepted}
-use Rattle.perceived.specs.Perceived.{answer}
+use Rattle.perceived.specs.Perceived.{measuredAs}
 use Rattle.perceived.proofs.Laws.{refused-is, accepted-is}
 use Rattle.perceived.proofs.measure.Statement.{statement}
 use Rattle.perceived.proofs.measure.Tie as tie
@@ -27,7 +27,7 @@ perceived-error-requires : tie.Need-perceived-error-requires
 perceived-error-requires c κs = checked-accepted (I (c .before .before .before .before .before .before .before .before)) (ap (λ (e : Eye). e .status .number) (sym (c .before .before .before .check-input .ensures)) ∙ c .if1 .left)
 
 returns-2 : tie.Need-returns-2
-returns-2 c = ap answer (c .perceived-error .ensures) ∙ accepted-is (I (c .before .before .before .before .before .before .before .before .before)) (c .before .before .before .before .check-input .result) (c .before .before .before .before .check-input .ensures) (c .before .if1 .left)
+returns-2 c = ap measuredAs (c .perceived-error .ensures) ∙ accepted-is (I (c .before .before .before .before .before .before .before .before .before)) (c .before .before .before .before .check-input .result) (c .before .before .before .before .check-input .ensures) (c .before .if1 .left)
 
 pub measure-spec : {M : Type 1} → statement M
 measure-spec =

@@ -4,7 +4,7 @@ use mathlib.Core.Path.{_≡_, sym, ap, _∙_}
 use mathlib.Core.Bool.{Bool, true, false, not}
 use borrow.Author.Needs.{needs}
 use lib.Ieee.{lt}
-use Rattle.base.specs.Refusal.{judge, Passes}
+use Rattle.base.specs.Refusal.{judge, isAccepted, Passes}
 use Rattle.base.proofs.RefusalLaws.{accepted-of}
 use Rattle.eye.specs.Constants.{alphaLum, alphaChroma, sigmaMin, truncationMax}
 use Rattle.eye.specs.Eye.{sigmaPx, truncation, kernelRadius, isFinitePositive, eyeTests, eyeOf}
@@ -33,7 +33,7 @@ refused-requires : tie.Need-refused-requires
 refused-requires c κs = search needs
 
 returns : tie.Need-returns
-unfolding eyeOf eyeTests judge
+unfolding eyeOf eyeTests judge isAccepted
 returns c = let at = c .before in c .refused .ensures ∙ rw (ppi-test (at .before) true (at .if1 .taken))
 
 is-finite-positive-requires-2 : tie.Need-is-finite-positive-requires-2
@@ -47,7 +47,7 @@ first : (c : tie.Else1) → not (isFinitePositive (c .before .before .args .self
 first c = ppi-test (c .before) false (c .if1 .left)
 
 returns-2 : tie.Need-returns-2
-unfolding eyeOf eyeTests judge
+unfolding eyeOf eyeTests judge isAccepted
 returns-2 c = let at = c .before in c .refused2 .ensures ∙ rw (first (at .before .before), distance-test (at .before) true (at .if2 .taken))
 
 eye-sigma-px-requires : tie.Need-eye-sigma-px-requires
@@ -60,7 +60,7 @@ second : (c : tie.Else2) → not (isFinitePositive (c .before .before .before .b
 second c = distance-test (c .before) false (c .if2 .left)
 
 returns-3 : tie.Need-returns-3
-unfolding eyeOf eyeTests judge
+unfolding eyeOf eyeTests judge isAccepted
 returns-3 c =
     let at = c .before in
     let two = at .before .before in
@@ -76,7 +76,7 @@ third : (c : tie.Else3) → lt (sigmaPx alphaLum (c .before .before .before .bef
 third c = lum-test (c .before) false (c .if3 .left)
 
 returns-4 : tie.Need-returns-4
-unfolding eyeOf eyeTests judge
+unfolding eyeOf eyeTests judge isAccepted
 returns-4 c =
     let at = c .before in
     let three = at .before .before in
@@ -103,7 +103,7 @@ mul-t11 : tie.Need-mul-t11
 mul-t11 c = search needs
 
 returns-5 : tie.Need-returns-5
-unfolding eyeOf kernelRadius
+unfolding eyeOf kernelRadius isAccepted
 returns-5 c = rw (accepted-of _ (passes (c .before .before)), c .before .blur-radius .ensures .0, c .blur-radius2 .ensures .0, c .before .before .before .before .before .eye-sigma-px .ensures, c .before .before .before .eye-sigma-px2 .ensures)
 
 pub validate-spec : {M : Type 1} → statement M

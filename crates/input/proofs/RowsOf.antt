@@ -1,0 +1,101 @@
+-- What refine, open and measure answer, by rows: each test means its line, and the first unnamed index is the lowest. Assumes nothing.
+use Prim.Native.Nat.{ℕ, _*_, _/_, _≤_}
+use native.Mathlib.Omega.{arith}
+use mathlib.Core.Path.{refl, sym, _∙_}
+use mathlib.Core.Logic.{_≢_}
+use mathlib.Core.Bool.{not, true≢false}
+use mathlib.Core.List.{List, [], _∷_, _++_}
+use borrow.Author.Tests.{ltb-true}
+use lib.Dec.{ltb}
+use lib.ListN.{length}
+use Rattle.base.specs.Refusal.{Test, test}
+use Rattle.base.specs.Rows.{Row}
+use Rattle.base.proofs.Meanings.{Means, denied, holds, lt, gt, ne, not-and, not-or, unless-passed}
+use Rattle.base.proofs.RowLaws.{Decides, decided, at-lowest, no-row, told, tells, Rises, by-lines, at-0}
+use Rattle.eye.specs.declared.DbsParams.{DbsParams}
+use Rattle.eye.specs.Eye.{eyeTests}
+use Rattle.input.specs.Input.{Input, input, pixelCount, inkCount, maskFits, paletteFits, firstUnnamed, imageTests, inkTests, inputTests, runTests, refineRunTests, openRunTests, refineTests, openTests}
+use Rattle.input.specs.Rows.{row6, row7, row8, row9, imageRows, inkRows, measureRows, inputRows, refineRows, openRows}
+use Rattle.input.proofs.FirstUnnamed.{first-is, named-of}
+use Rattle.input.proofs.Limits.{palette-iff}
+use Rattle.input.proofs.EyeValidity.{finite-positive-iff}
+
+-- ---- rows 5 and 6
+
+palette-means : (palette : ℕ) → Means (not (paletteFits palette)) ((inks : ℕ) → 1 ≤ inks → inks ≤ 256 → palette ≢ 3 * inks)
+palette-means palette =
+    let i = palette-iff palette in
+    record {
+      when = λ e inks low high same. true≢false (sym e ∙ i .1 (omega arith, (omega arith, omega arith)));
+      unless = λ e f. let h = i .0 e in f (palette / 3) (h .1 .0) (h .1 .1) (omega arith);
+    }
+
+pub unnamed : (inks : ℕ) (indices : List ℕ) {ts : List Test} {rs : List Row} → Decides ts rs →
+    Decides (test (ltb (firstUnnamed inks indices) (length indices)) 6 (firstUnnamed inks indices) ∷ ts) (row6 inks indices ∷ rs)
+unnamed inks indices rest =
+    let f = first-is inks indices in
+    let place = firstUnnamed inks indices in
+    at-lowest (test (ltb place (length indices)) 6 place) (row6 inks indices) refl
+    (λ e. let h = ltb-true place (length indices) e in ((h, f .there h), λ q l w. omega (arith, f .before q l, w .1)))
+    (λ e i w. omega (arith, named-of inks indices e i (w .0), w .1)) rest
+
+-- ---- rows 1 to 9
+
+eye-rows : (p : DbsParams) {ts : List Test} {rs : List Row} → Decides ts rs → Decides (eyeTests p ++ ts) (row7 p ∷ row8 p ∷ row9 p ∷ rs)
+unfolding eyeTests Rises
+eye-rows p rest =
+    at-0 (unless-passed (finite-positive-iff (p .ppi)))
+    (at-0 (unless-passed (finite-positive-iff (p .«viewing_distance_cm»)))
+    (by-lines (tells (holds _) (tells (holds _) told)) (omega arith) rest))
+
+ink-rows : (I : Input) {ts : List Test} {rs : List Row} → Decides ts rs → Decides (inkTests (length (I .palette)) (I .indices) ++ (eyeTests (I .params) ++ ts)) (inkRows I ++ rs)
+unfolding inkTests inkRows inkCount
+ink-rows I rest = at-0 (palette-means (length (I .palette))) (unnamed (inkCount I) (I .indices) (eye-rows (I .params) rest))
+
+-- the test of the mask
+abbrev maskTest : Input → Test
+maskTest I = test (not (maskFits (length (I .pinned)) (pixelCount I))) 4 0
+
+-- rows 1 to 3
+image-rows : (I : Input) {ts : List Test} {rs : List Row} → Decides (maskTest I ∷ ts) rs →
+    Decides (imageTests (I .width) (I .height) (length (I .pixels)) (length (I .indices)) (length (I .pinned)) ++ ts) (imageRows I ++ rs)
+unfolding imageTests imageRows pixelCount
+image-rows I rest =
+    at-0 (denied (not-and (not-and (gt 1 (I .width)) (gt (I .width) 4096)) (gt (I .height) 4096)))
+    (at-0 (denied (ne (length (I .pixels)) (3 * pixelCount I))) (at-0 (denied (ne (length (I .indices)) (pixelCount I))) rest))
+
+input-rows : (I : Input) {ts : List Test} {rs : List Row} → Decides ts rs → Decides (inputTests I ++ ts) (inputRows I ++ rs)
+unfolding inputTests imageTests inkTests eyeTests imageRows inkRows inputRows
+input-rows I rest = image-rows I (at-0 (denied (not-or (ne (length (I .pinned)) 0) (ne (length (I .pinned)) (pixelCount I)))) (ink-rows I rest))
+
+-- ---- each call
+
+module _ (I : Input) (passes cpe cpp counts inks : ℕ) where
+  pub refine-rows : Decides (refineTests I passes cpe cpp counts inks) (refineRows I passes cpe cpp counts inks)
+  unfolding refineTests refineRunTests runTests refineRows Rises
+  refine-rows =
+      input-rows I
+      (at-0 (lt 1000 passes)
+      (by-lines
+      (tells (denied (ne cpe (3 * pixelCount I))) (tells (denied (ne cpp 8450)) (tells (denied (ne counts passes)) (tells (denied (ne inks (3 * inkCount I))) told))))
+      (omega arith) decided))
+
+module _ (I : Input) (passes tiles cpe cpp counts states deltas inks : ℕ) where
+  pub open-rows : Decides (openTests I passes tiles cpe cpp counts states deltas inks) (openRows I passes tiles cpe cpp counts states deltas inks)
+  unfolding openTests openRunTests runTests openRows Rises
+  open-rows =
+      input-rows I
+      (at-0 (lt 1000 passes)
+      (by-lines
+      (tells (denied (ne cpe (3 * pixelCount I)))
+      (tells (denied (ne cpp 8450))
+      (tells (denied (ne counts passes))
+      (tells (denied (ne states tiles))
+      (tells (denied (ne deltas tiles))
+      (tells (denied (ne inks (3 * inkCount I))) told))))))
+      (omega arith) decided))
+
+-- with an empty mask row 4 never holds
+pub measure-rows : (width height : ℕ) (pixels palette indices : List ℕ) (params : DbsParams) → let I = input width height pixels palette indices [] params in Decides (inputTests I) (measureRows I)
+unfolding inputTests imageTests inkTests eyeTests imageRows inkRows measureRows
+measure-rows width height pixels palette indices params = let I = input width height pixels palette indices [] params in image-rows I (no-row (maskTest I) refl (ink-rows I decided))
