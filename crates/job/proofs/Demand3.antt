@@ -1,5 +1,5 @@
 -- Demand 3. One invariant holds of run two between any two calls: its run stands for a record with which the job is in the middle of a phase (Phase.antt).
--- A refused call leaves the run and the job's own buffers, an accepted take or put back keeps the invariant, and an accepted close carries it over to
+-- A refused call leaves the run and the job's own buffers (demand 1), an accepted take or put back keeps the invariant, and an accepted close carries it over to
 -- run one's next phase. All that is claimed follows from it. Assumes nothing.
 use Prim.Native.Nat.{ℕ, suc, _+_, _*_, _%_, _≤_, _<_}
 use native.Mathlib.Omega.{arith}
@@ -46,13 +46,15 @@ use Rattle.job.specs.Boundary.{openRun, wordsAfter, PutBackRun, putBackO
 use Rattle.job.specs.Runs.{Lent, own, other, given, left, Call, take as takeCall, putBack, close, Job, rec, start, lentImage, ran, answer, after, isClose, closesAfter}
 use Rattle.job.specs.Claim.{Own, workOn, WorkMade, Brings, Fair, Same, SameJob, Safe, EveryPhase, EveryCall, phases, Along, Demand3}
 use Rattle.job.specs.Companions.{Doubles}
+use Rattle.job.specs.Demand1.{ValidRun}
 use Rattle.job.proofs.Merge.{Half, pixelsNow, walkSome, walk-reached}
 use Rattle.job.proofs.Validity.{take-passes, putBack-passes, close-passes}
 use Rattle.job.proofs.Answers.{accepted-is, is-accepted, not-accepted, take-answers, putBack-answers, close-answers}
 use Rattle.job.proofs.Opened.{opens, run-leaves, starts, valid, ready}
 use Rattle.job.proofs.WordsLaws.{encoded, over}
 use Rattle.job.proofs.Fine.{initial-fine, walk-fine}
-use Rattle.job.proofs.OnRun.{Stands, take-on, work-on, put-on, close-on, take-kept, put-kept, close-kept}
+use Rattle.job.proofs.OnRun.{take-on, work-on, put-on, close-on}
+use Rattle.job.proofs.Demand1.{demand1}
 use Rattle.job.proofs.Phase.{Stage, S, Inv, isHome, home-due, tookTile, tileBack, phaseClosed, fresh, take-keeps, work-made, putBack-keeps, close-same, close-keeps}
 
 -- ---- a refused call: the run is seen once more, and nothing else has changed
@@ -67,10 +69,10 @@ untouched mine (other a) = refl
 pub refused-after : (J : Job) (c : Call) → answer J c ≢ accepted → after J c ≡ seenAgain J
 unfolding ran
 refused-after J (takeCall t indices cpe states copy) n =
-    let k = take-kept (J .words) t (lentImage J indices cpe) (given (J .states) states) copy n in
+    let k = demand1 .takes (J .words) t (lentImage J indices cpe) (given (J .states) states) copy .keeps n in
     rw (not-accepted _ n, ap (λ (a : Taken). a .states) k, untouched (J .states) states)
 refused-after J (putBack t indices cpe states deltas made) n =
-    let k = put-kept (J .words) t (lentImage J indices cpe) (given (J .states) states) (given (J .deltas) deltas) made n in
+    let k = demand1 .puts (J .words) t (lentImage J indices cpe) (given (J .states) states) (given (J .deltas) deltas) made .keeps n in
     rw (
       ap (λ (a : PutBackRun). a .words) k,
       ap (λ (a : PutBackRun). a .image) k,
@@ -82,7 +84,7 @@ refused-after J (putBack t indices cpe states deltas made) n =
       untouched (J .deltas) deltas,
     )
 refused-after J (close counts states deltas) n =
-    let k = close-kept (J .words) (given (J .counts) counts) (given (J .states) states) (given (J .deltas) deltas) n in
+    let k = demand1 .closes (J .words) (given (J .counts) counts) (given (J .states) states) (given (J .deltas) deltas) .keeps n in
     rw (ap (λ (a : ClosedRun). a .words) k, ap (λ (a : ClosedRun). a .counts) k, ap (λ (a : ClosedRun). a .states) k, untouched (J .counts) counts, untouched (J .states) states)
 
 -- every call leaves its run among those seen
@@ -101,11 +103,11 @@ flag : (b : Bool) → cond b 1 0 ≤ 1
 flag true = omega arith
 flag false = omega arith
 
-pub encoded-stands : (r : JobRecord) → Stands (encode r)
+pub encoded-stands : (r : JobRecord) → ValidRun (encode r)
 unfolding encode wordsWith
 encoded-stands r = record { twelve = refl; flag = flag (r .finished) }
 
-rewritten-stands : (words : List ℕ) (r : JobRecord) → Stands (rewritten words r)
+rewritten-stands : (words : List ℕ) (r : JobRecord) → ValidRun (rewritten words r)
 unfolding rewritten wordsWith
 rewritten-stands words r = record { twelve = refl; flag = flag (r .finished) }
 
@@ -119,7 +121,7 @@ putting t made = putBack t own own own own made
 abbrev pub closing : Call
 closing = close own own own
 
-module _ (J : Job) (s : Stands (J .words)) where
+module _ (J : Job) (s : ValidRun (J .words)) where
   pub take-status : (t : ℕ) (copy : Pixels) → answer J (taking t copy) ≡ takeOf (rec J) t (J .image) (J .states) copy .status
   unfolding ran
   take-status t copy = ap (λ (a : Taken). a .status) (take-on (J .words) s t (J .image) (J .states) copy)
@@ -143,7 +145,7 @@ module _ (J : Job) (s : Stands (J .words)) where
   unfolding wordsAfter
   rewrites r d = rw is-accepted (over (J .words) r d)
 
-  after-stands : (r : JobRecord) → Stands (wordsAfter (J .words) accepted r)
+  after-stands : (r : JobRecord) → ValidRun (wordsAfter (J .words) accepted r)
   unfolding wordsAfter
   after-stands r = rw is-accepted (rewritten-stands (J .words) r)
 
@@ -157,8 +159,8 @@ module _ (J : Job) (s : Stands (J .words)) where
       unfolding ran putBackOver
       put-words = rw (put-on (J .words) s t (J .image) (J .states) (J .deltas) made, putBack-answers (rec J) t (J .image) (J .states) (J .deltas) made .leaves (sym put-status ∙ e))
 
-      pub put-stands : Stands (after J (putting t made) .words)
-      put-stands = subst Stands (sym put-words) (after-stands (withProgress (rec J) (made .progress)))
+      pub put-stands : ValidRun (after J (putting t made) .words)
+      put-stands = subst ValidRun (sym put-words) (after-stands (withProgress (rec J) (made .progress)))
 
       pub put-stage : Doubles (withProgress (rec J) (made .progress)) → stage (after J (putting t made)) ≡ tileBack (stage J) t made
       unfolding ran tileBack putBackOver
@@ -178,8 +180,8 @@ module _ (J : Job) (s : Stands (J .words)) where
     unfolding ran closedOver
     close-words = rw (close-on (J .words) s (J .counts) (J .states) (J .deltas), close-answers (rec J) (J .counts) (J .states) (J .deltas) .leaves (sym close-status ∙ e))
 
-    pub close-stands : Stands (after J closing .words)
-    close-stands = subst Stands (sym close-words) (after-stands (nextRecord (rec J) (J .deltas)))
+    pub close-stands : ValidRun (after J closing .words)
+    close-stands = subst ValidRun (sym close-words) (after-stands (nextRecord (rec J) (J .deltas)))
 
     pub close-stage : Doubles (nextRecord (rec J) (J .deltas)) → stage (after J closing) ≡ phaseClosed (stage J)
     unfolding ran phaseClosed closedOver
@@ -205,11 +207,11 @@ InvOf O J w = Inv (planOf O) (O .input .pinned) (inksOf (O .input)) (cppOf (O .i
 
 -- a run that open or a call left
 pub record Known (O : Opening) (words : List ℕ) : Type 0 where
-  pub stands : Stands words
+  pub stands : ValidRun words
   pub planned : decode words .plan ≡ planOf O
 
 pub record Mid (O : Opening) (J : Job) (w : Walk) : Type 0 where
-  pub stands : Stands (J .words)
+  pub stands : ValidRun (J .words)
   pub inv : InvOf O (stage J) w
   pub seen : (u : List ℕ) → List·Memᴰ u (J .seen) → Known O u
   pub present : List·Memᴰ (J .words) (J .seen)
@@ -218,7 +220,7 @@ pub doubles-of : (O : Opening) (n : ℕ) (J : Stage) → InvOf O J (phases O n) 
 doubles-of O n J H = record { initial = rw (ap (λ (p : Plan). p .initial) (H .recorded .planned)) (initial-fine O); error = rw (H .recorded .error) (walk-fine O n) }
 
 -- from one state to the next, where the run left is among those seen
-next-mid : (O : Opening) (J K : Job) (w v : Walk) → Mid O J w → K .seen ≡ K .words ∷ J .seen → Stands (K .words) → InvOf O (stage K) v → Mid O K v
+next-mid : (O : Opening) (J K : Job) (w v : Walk) → Mid O J w → K .seen ≡ K .words ∷ J .seen → ValidRun (K .words) → InvOf O (stage K) v → Mid O K v
 next-mid O J K w v H e s I = record { stands = s; inv = I; seen = λ u m. go u (List·Memᴰ·cases-cons (subst (λ (l : List (List ℕ)). List·Memᴰ u l) e m)); present = subst (λ (l : List (List ℕ)). List·Memᴰ (K .words) l) (sym e) (List·Memᴰ·head refl) }
   where
     go : (u : List ℕ) → (u ≡ K .words) ⊎ List·Memᴰ u (J .seen) → Known O u

@@ -1,6 +1,8 @@
 pub mod Bools
 pub mod Validity
 pub mod Answers
+pub mod RowsOf
+pub mod Demand1
 pub mod Opened
 pub mod Merge
 pub mod Phase
@@ -14,5 +16,3 @@ pub mod Companions
 pub mod Copies
 pub mod Progress
 pub mod Cases
-pub mod RowsOf
-pub mod Demand1
