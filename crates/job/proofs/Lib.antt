@@ -12,3 +12,4 @@ pub mod Companions
 pub mod Copies
 pub mod Progress
 pub mod Cases
+pub mod WhateverHeld

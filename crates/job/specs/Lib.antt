@@ -11,3 +11,4 @@ pub mod Runs
 pub mod Claim
 pub mod Companions
 pub mod Boundary
+pub mod WhateverHeld
