@@ -53,12 +53,17 @@ in-kernel : (x m r b : ℕ) → x < min b (m + r + 1) → x + r - m < 2 * r + 1
 in-kernel x m r b h = omega arith
 
 module _ (cpp cpp′ : List Float) (k : Kernel2D) (e : SameKernel k cpp cpp′) where
+  -- pixel (x, y) of the kernel's footprint round (mx, my), cut at b and d
+  at-same : (x y mx my b d : ℕ) → x < min b (mx + k .radius + 1) → y < min d (my + k .radius + 1) →
+      kernelAt cpp k (x + k .radius - mx) (y + k .radius - my) ≡ kernelAt cpp′ k (x + k .radius - mx) (y + k .radius - my)
+  at-same x y mx my b d p q = e _ _ (omega (arith, in-kernel x mx (k .radius) b p)) (omega (arith, in-kernel y my (k .radius) d q))
+
   centre-same : centreOf cpp k ≡ centreOf cpp′ k
   unfolding centreOf
   centre-same = e (k .radius) (k .radius) (omega arith) (omega arith)
 
   value-same : (a : Adjacent) → Beyond (k .radius) (k .radius) (size k) (size k) a → valueOf cpp k a ≡ valueOf cpp′ k a
-  value-same (Pixel i j) p = e i j (p .0 .under) (p .1 .under)
+  value-same (Pixel i j) p = e i j (omega (arith, p .0 .under)) (omega (arith, p .1 .under))
   value-same Outside p = refl
 
   beside-same : (code : ℕ) → besideOf cpp k code ≡ besideOf cpp′ k code
@@ -69,13 +74,13 @@ module _ (cpp cpp′ : List Float) (k : Kernel2D) (e : SameKernel k cpp cpp′) 
   unfolding sweepOf sweepRow sweepPixel
   sweep-same h a W mx my f =
       fromTo-same _ _ _ _ f (λ y p q f. fromTo-same _ _ _ _ f (λ x p′ q′ f.
-      ap (λ (v : Float). addAt h a v (place 3 W x y 0) f) (e _ _ (in-kernel x mx (k .radius) (W .x1) q′) (in-kernel y my (k .radius) (W .y1) q))))
+      ap (λ (v : Float). addAt h a v (place 3 W x y 0) f) (at-same x y mx my (W .x1) (W .y1) q′ q)))
 
   correlate-same : (w : ℕ) (G : Scene) (x y c h : ℕ) → correlateAt w G cpp k x y c h ≡ correlateAt w G cpp′ k x y c h
   unfolding correlateAt correlateRow correlateTerm
   correlate-same w G x y c h =
       fromTo-same _ _ _ _ _ (λ v p q s. fromTo-same _ _ _ _ s (λ u p′ q′ s.
-      ap (λ (t : Float). s +f t *f channel c (errorAt w G u v)) (e _ _ (in-kernel u x (k .radius) w q′) (in-kernel v y (k .radius) h q))))
+      ap (λ (t : Float). s +f t *f channel c (errorAt w G u v)) (at-same u v x y w h q′ q)))
 
 -- ---- both kernels
 
