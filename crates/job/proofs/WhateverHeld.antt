@@ -76,13 +76,14 @@ module _ (I : Input) (passes : ℕ) (cpp cpp′ : List Float) (counts counts′ 
 
 -- ---- open
 
-either : (t : Bool) (A B : Opened) (s : Status) → A .status ≡ s → B .status ≡ s → cond t A B .status ≡ s
-either true A B s p q = p
-either false A B s p q = q
+-- what both answers have, the one that is chosen has
+pub either : {A B : Type 0} (f : A → B) (t : Bool) (x y : A) (z : B) → f x ≡ z → f y ≡ z → f (cond t x y) ≡ z
+either f true x y z p q = p
+either f false x y z p q = q
 
 status-is : (O : Opening) → openOf O .status ≡ judge (openTestsOf O)
 unfolding openOf
-status-is O = either (isAccepted (judge (openTestsOf O))) _ _ _ refl refl
+status-is O = either (λ (a : Opened). a .status) (isAccepted (judge (openTestsOf O))) _ _ _ refl refl
 
 module _ (O O′ : Opening) (k : AskAlike O O′) where
   tests-same : openTestsOf O ≡ openTestsOf O′

@@ -47,7 +47,7 @@ pub over : (words : List ℕ) (r : JobRecord) → Doubles r → decode (rewritte
 unfolding rewritten
 over words r d = decode-words r _ _ (over-float (getD words 9 0) (r .plan .initial) (d .initial)) (over-float (getD words 10 0) (r .error) (d .error))
 
-over-same : (old : ℕ) → old < 2 ^ 64 → wordOver old (ofBits binary64 old) ≡ old
+pub over-same : (old : ℕ) → old < 2 ^ 64 → wordOver old (ofBits binary64 old) ≡ old
 unfolding wordOver
 over-same old h = rw (nanBits-is binary64 old) (go (isNan (ofBits binary64 old)) refl)
   where

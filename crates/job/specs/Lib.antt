@@ -12,3 +12,4 @@ pub mod Claim
 pub mod Companions
 pub mod Boundary
 pub mod WhateverHeld
+pub mod AnyFloats
