@@ -15,3 +15,4 @@ pub mod Cases
 pub mod WhateverHeld
 pub mod Touched
 pub mod AnyFloats
+pub mod JobCases
