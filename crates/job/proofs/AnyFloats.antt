@@ -15,6 +15,7 @@ use Rattle.tiling.specs.Tiling.{tile, region, tiles}
 use Rattle.search.specs.Shared.{Shared, Named}
 use Rattle.tile.specs.Tile.{State, state, noProgress}
 use Rattle.tile.proofs.Keeps.{Sound, tile-sound, tile-count}
+use Rattle.tile.proofs.Touched.{far-tile, still-tile}
 use Rattle.job.specs.declared.JobRecord.{JobRecord}
 use Rattle.job.specs.Record.{jobShared}
 use Rattle.job.specs.Words.{wordsTests, decode, wordsWith, wordOver, rewritten}
@@ -26,7 +27,6 @@ use Rattle.job.specs.Boundary.{workRun, wordsAfter, PutBackRun, putBackR
 use Rattle.job.specs.AnyFloats.{WorkKeeps, WordStays, AnyFloats}
 use Rattle.job.proofs.Answers.{work-answers}
 use Rattle.job.proofs.Copies.{region-covers}
-use Rattle.job.proofs.Touched.{far-tile, still-tile}
 use Rattle.job.proofs.Validity.{work-passes}
 use Rattle.job.proofs.WhateverHeld.{either}
 use Rattle.job.proofs.WordsLaws.{over-same}

@@ -13,6 +13,5 @@ pub mod Copies
 pub mod Progress
 pub mod Cases
 pub mod WhateverHeld
-pub mod Touched
 pub mod AnyFloats
 pub mod JobCases

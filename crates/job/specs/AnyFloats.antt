@@ -1,29 +1,24 @@
 -- ANY FLOATS: 'A job call may be given any floats; where these stem from no open, name what no definition here decides, and state what must hold of it anyway.'
 -- What no definition decides is which bits a NaN that a call makes has (Record.antt). The rest is what the definitions say, whatever the floats; of it these
 -- lines say what a host counts on, NaN or not.
-use Prim.Native.Nat.{ℕ, _+_, _-_, _^_, _≤_, _<_}
+use Prim.Native.Nat.{ℕ, _^_, _≤_, _<_}
 use mathlib.Core.Path.{_≡_}
 use mathlib.Core.Bool.{true}
 use mathlib.Core.List.{List}
 use lib.ListN.{length, getD}
 use lib.Ieee.{Float, binary64, ofBits}
-use Rattle.base.specs.declared.Rect.{Rect}
 use Rattle.base.specs.Grid.{Inside}
 use Rattle.base.specs.Refusal.{accepted}
 use Rattle.tiling.specs.Tiling.{tile, region}
 use Rattle.pins.specs.Pins.{pinnedAt}
 use Rattle.search.specs.Shared.{Shared, indexAt, Named}
-use Rattle.tile.specs.Tile.{State, state, noProgress, unpinned}
+use Rattle.tile.specs.Tile.{State, state, noProgress, unpinned, grown}
 use Rattle.job.specs.Record.{jobShared}
 use Rattle.job.specs.Words.{decode, wordOver}
 use Rattle.job.specs.Copy.{Pixels}
 use Rattle.job.specs.Boundary.{workRun, putBackRun, closeRun}
 
 -- ---- an accepted work
-
--- a rectangle and the pixels next to it
-abbrev pub grown : Rect → Rect
-grown Q = record { x0 = Q .x0 - 1; y0 = Q .y0 - 1; x1 = Q .x1 + 1; y1 = Q .y1 + 1 }
 
 -- what it makes of a copy of tile t's region
 pub record WorkKeeps (S : Shared) (t : ℕ) (copy : Pixels) (made : State) : Type 0 where

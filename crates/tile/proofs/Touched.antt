@@ -20,9 +20,8 @@ use Rattle.search.specs.Shared.{Shared, indexAt, Held}
 use Rattle.search.specs.Search.{noMove, evaluateOf}
 use Rattle.search.proofs.Laws.{held-inside, neighbour-inside}
 use Rattle.moves.specs.Moves.{exchanged, movedIndices, movedCpe, counted}
-use Rattle.tile.specs.Tile.{State, state, applied, visitOf, refineRow, refineTile, Covers}
+use Rattle.tile.specs.Tile.{State, state, applied, visitOf, refineRow, refineTile, grown, Covers}
 use Rattle.tile.proofs.Keeps.{covers-held}
-use Rattle.job.specs.AnyFloats.{grown}
 
 module _ (S : Shared) (W Q : Rect) (k : Covers (S .tiling) W Q) where
   -- ---- the index of a pixel far from the tile
