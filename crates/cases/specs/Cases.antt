@@ -17,6 +17,7 @@ use Rattle.tiling.specs.declared.Tiling.{Tiling}
 use Rattle.tiling.specs.Tiling.{image, margin, side, inPhase, tile, region}
 use Rattle.neighbour.specs.declared.Adjacent.the-variants.{Pixel, Outside}
 use Rattle.neighbour.specs.Neighbour.{neighbourOf}
+use Rattle.pins.specs.Pins.{pinnedAt}
 use Rattle.cpp.specs.Kernel.{lumKernel, chromaKernel, kernelPlace}
 use Rattle.search.specs.declared.Best.{Best}
 use Rattle.search.specs.declared.Move.{Move}
@@ -64,9 +65,12 @@ handCpp T v = table 8450 (λ i.
 abbrev valueOf : List Float → List ℕ → ℕ → Float
 valueOf inks indices i = getD inks (3 * getD indices (i / 3) 0 + i % 3) nan
 
--- `cpe` under the kernel H, which leaves the error as it is: each pixel's ink less its target, which here is an ink too
-unfoldable pub handCpe : List Float → List ℕ → List ℕ → List Float
-handCpe inks indices targets = table (3 * length indices) (λ i. valueOf inks indices i -f valueOf inks targets i)
+-- Lines 8 to 11 have a field made by hand, as their targets are inks and stem from no pixels: `cpe` under the kernel H, which leaves the error as it is. That
+-- is each pixel's ink less its target's; 'A pinned dot's target is its own starting ink'.
+unfoldable pub handCpe : List Float → List ℕ → List ℕ → List ℕ → List Float
+handCpe inks pinned indices targets = table (3 * length indices) (λ i.
+    let aims = cond (pinnedAt pinned (length indices) (i / 3) 0) indices targets in
+    valueOf inks indices i -f valueOf inks aims i)
 
 -- the best move of an image's first pixel, and what refining its first tile leaves
 unfoldable pub refined : Shared → List Float → List ℕ → Best × State
@@ -79,7 +83,7 @@ refined S cpe indices = (
 unfoldable pub hand : List Float → List ℕ → List ℕ → List ℕ → Best × State
 hand inks pinned indices targets =
     let T = strip (length indices) in
-    refined (shared T (length inks / 3) pinned inks (handCpp T f1)) (handCpe inks indices targets) indices
+    refined (shared T (length inks / 3) pinned inks (handCpp T f1)) (handCpe inks pinned indices targets) indices
 
 -- 'ink values (0,0,0), (1,0,0)', and 'a third ink equal to ink 1'
 abbrev twoInks : List Float
@@ -88,7 +92,7 @@ twoInks = f0 ∷ f0 ∷ f0 ∷ f1 ∷ f0 ∷ f0 ∷ []
 abbrev threeInks : List Float
 threeInks = f0 ∷ f0 ∷ f0 ∷ f1 ∷ f0 ∷ f0 ∷ f1 ∷ f0 ∷ f0 ∷ []
 
--- a pixel of ink 0 under kernels of 0: the cost of its toggle to ink 1, which is 2 * 1 * `cpe`; its best move, and what refining leaves
+-- Line 12: a pixel of ink 0 under kernels of 0, its `cpe` made by hand too: the cost of its toggle to ink 1, which is 2 * 1 * `cpe`; its best move, and what refining leaves
 unfoldable pub level : List Float → Float × (Best × State)
 level cpe =
     let S = shared (strip 1) 2 [] twoInks (handCpp (strip 1) f0) in
@@ -138,7 +142,7 @@ cases =
     -- H, indices 1 0, targets 0 1: swap, −2
     ∷ (hand twoInks [] (1 ∷ 0 ∷ []) (0 ∷ 1 ∷ []) ⇒ (best (Swap 4) minus2, after (f0 ∷ f0 ∷ f0 ∷ f0 ∷ f0 ∷ f0 ∷ []) (0 ∷ 1 ∷ []) 1 minus2))
     -- same, second dot pinned: toggle, 0 0
-    ∷ (hand twoInks (0 ∷ 1 ∷ []) (1 ∷ 0 ∷ []) (0 ∷ 1 ∷ []) ⇒ (best (Toggle 0) minus1, after (f0 ∷ f0 ∷ f0 ∷ minus1 ∷ f0 ∷ f0 ∷ []) (0 ∷ 0 ∷ []) 1 minus1))
+    ∷ (hand twoInks (0 ∷ 1 ∷ []) (1 ∷ 0 ∷ []) (0 ∷ 1 ∷ []) ⇒ (best (Toggle 0) minus1, after (f0 ∷ f0 ∷ f0 ∷ f0 ∷ f0 ∷ f0 ∷ []) (0 ∷ 0 ∷ []) 1 minus1))
     -- cost exactly −1e-9: no move
     ∷ (level (halfLimit ∷ f0 ∷ f0 ∷ []) ⇒ (limit, (best Stay limit, after (halfLimit ∷ f0 ∷ f0 ∷ []) (0 ∷ []) 0 f0)))
     ∷ []

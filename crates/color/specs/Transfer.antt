@@ -25,13 +25,13 @@ pub record Fraction : Type 0 where
   pub top : ℕ
   pub bottom : ℕ
 
--- a ≤ L: that is a⁵ ≤ L⁵, multiplied by both divisors
-abbrev pub AtMostL : ℕ → Fraction → Type 0
-AtMostL v a = a .top ^ 5 * 10761 ^ 12 ≤ (40 * v + 561) ^ 12 * a .bottom ^ 5
+-- a < L: that is a⁵ < L⁵, multiplied by both divisors
+abbrev pub BelowL : ℕ → Fraction → Type 0
+BelowL v a = a .top ^ 5 * 10761 ^ 12 < (40 * v + 561) ^ 12 * a .bottom ^ 5
 
--- L ≤ a, likewise
-abbrev pub AtLeastL : ℕ → Fraction → Type 0
-AtLeastL v a = (40 * v + 561) ^ 12 * a .bottom ^ 5 ≤ a .top ^ 5 * 10761 ^ 12
+-- L < a, likewise
+abbrev pub AboveL : ℕ → Fraction → Type 0
+AboveL v a = (40 * v + 561) ^ 12 * a .bottom ^ 5 < a .top ^ 5 * 10761 ^ 12
 
 -- the sign of a float, true for minus
 abbrev pub signBit : Float → Bool
@@ -47,14 +47,14 @@ midpoint x y =
     let b = num y * den x in
     record { top = cond (signBit y) (a - b) (a + b); bottom = 2 * (den x * den y) }
 
--- x is the f64 nearest to L: no other finite f64 y lies nearer. The numbers nearer to y than to x are those past the midpoint of the two, on y's side. So y
--- lies no nearer to L than x exactly where L is not past the midpoint: the midpoint is at most L for a y below x, and at least L for a y above x.
--- (`fits binary64 y` says that y is an f64, `positive x` that x is finite and above 0.)
+-- x is the f64 nearest to L: every other finite f64 y lies farther off, so that no two are nearest (`one-nearest` of proofs/NearestLaw.antt). The numbers
+-- nearer to x than to y are those on x's side of the midpoint of the two. So y lies farther from L than x exactly where the midpoint is below L for a y
+-- below x, and above L for a y above x. (`fits binary64 y` says that y is an f64, `positive x` that x is finite and above 0.)
 pub record Nearest (v : ℕ) (x : Float) : Type 0 where
   pub is-f64 : T (fits binary64 x)
   pub is-positive : T (positive x)
-  pub none-below : (y : Float) → T (fits binary64 y) → T (finite y) → T (lt y x) → AtMostL v (midpoint x y)
-  pub none-above : (y : Float) → T (fits binary64 y) → T (finite y) → T (lt x y) → AtLeastL v (midpoint x y)
+  pub none-below : (y : Float) → T (fits binary64 y) → T (finite y) → T (lt y x) → BelowL v (midpoint x y)
+  pub none-above : (y : Float) → T (fits binary64 y) → T (finite y) → T (lt x y) → AboveL v (midpoint x y)
 
 -- ---- the rule: x is the table's entry for the byte v; no entry is a NaN
 pub record Rule (v : ℕ) (x : Float) : Type 0 where

@@ -3,7 +3,8 @@
 // Ports `srgb_channel_to_linear` and `srgb_to_linear_lut` of color_space.rs, `SRGB_TO_XYZ` and `D65` of
 // lab.rs, and of dbs.rs `srgb_to_yycxcz` and the palette's half of `to_yycxcz`. Each f64 operation is
 // the Rust's, in its order. The table's entries are not: the Rust's come of `powf`, these are constants,
-// proved to be the f64s nearest to the standard's values.
+// proved to be the quotients v / 255 / 12.92 for bytes v up to 10, and from 11 on the f64s nearest to the
+// standard's values.
 
 ghost use mathlib.Core.Path.{_≡_};
 ghost use Prim.Native.Nat.{_+_, _<_, _%_};

@@ -16,3 +16,6 @@ pub mod Companions
 pub mod Copies
 pub mod Progress
 pub mod Cases
+pub mod WhateverHeld
+pub mod AnyFloats
+pub mod JobCases

@@ -13,3 +13,5 @@ pub mod Demand1
 pub mod Runs
 pub mod Claim
 pub mod Companions
+pub mod WhateverHeld
+pub mod AnyFloats

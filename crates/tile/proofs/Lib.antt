@@ -3,3 +3,4 @@ pub mod Local
 pub mod Keeps
 pub mod Walked
 pub mod Reach
+pub mod Touched

@@ -51,6 +51,10 @@ refineTile S W Q s = fromTo (Q .y0) (Q .y1) (refineRow S W Q) s
 unfoldable pub unpinned : Shared → Rect → ℕ
 unpinned S Q = fromTo (Q .y0) (Q .y1) (λ y. fromTo (Q .x0) (Q .x1) (λ x n. n + cond (pinnedAt (S .pinned) (S .tiling .width) x y) 0 1)) 0
 
+-- a rectangle and the pixels next to it: a tile changes no index but in it and next to it
+abbrev pub grown : Rect → Rect
+grown Q = record { x0 = Q .x0 - 1; y0 = Q .y0 - 1; x1 = Q .x1 + 1; y1 = Q .y1 + 1 }
+
 -- ---- what the code asks for
 
 -- The tile Q lies in the image, and the window holds it with its neighbours in the image.

@@ -1,0 +1,170 @@
+-- What a call on an accepted input leaves is made of the input and of both kernels, which it writes whole (`same-kernels` of the crate prepare); the tests ask the lent
+-- buffers for their lengths only. Assumes nothing.
+use Prim.Native.Nat.{ℕ, _*_}
+use mathlib.Core.Path.{_≡_, refl, sym, ap, _∙_}
+use mathlib.Core.Bool.{Bool, true, false, cond}
+use mathlib.Core.List.{List, [], _∷_}
+use borrow.Author.Tests.{eqb-true, eqb-false}
+use lib.Dec.{eqb}
+use lib.ListN.{length, take}
+use lib.Seq.{take-append-seam}
+use lib.Ieee.{Float}
+use Rattle.base.specs.declared.Status.{Status}
+use Rattle.base.specs.Loop.{overwrite}
+use Rattle.base.specs.Refusal.{judge, accepted, isAccepted}
+use Rattle.base.proofs.JudgeLaws.{judge-zero}
+use Rattle.tiling.specs.Tiling.{tile, region}
+use Rattle.input.specs.Input.{Input, inputTests, refineTests}
+use Rattle.input.specs.Valid.{ValidRefine}
+use Rattle.input.proofs.Validity.{valid-iff, refine-valid-iff, refine-numbered}
+use Rattle.tile.specs.Tile.{state, noProgress}
+use Rattle.prepare.specs.Prepare.{tilingOf, cppOf, cpeOf, errorOf, runOne}
+use Rattle.prepare.specs.SameKernels.{SameKernels}
+use Rattle.prepare.proofs.SameKernels.{tile-same, same-kernels, same-cpe, same-error, same-run}
+use Rattle.refine.specs.Refine.{refinement, refusedStats, refineAccepted, refineOf}
+use Rattle.job.specs.Record.{jobShared}
+use Rattle.job.specs.Words.{runTest, decode, encode}
+use Rattle.job.specs.Copy.{Pixels, refinedCopy}
+use Rattle.job.specs.Open.{Opening, Opened, openTestsOf, firstRecord, openOf}
+use Rattle.job.specs.Work.{workTests, workOf}
+use Rattle.job.specs.Boundary.{OpenedRun, openedRun, openRun, workRun}
+use Rattle.job.specs.Claim.{phases}
+use Rattle.job.specs.WhateverHeld.{RefinesAlike, AskAlike, SameOpened, OpensAlike, WhateverHeld}
+use Rattle.job.proofs.Opened.{leaves, valid}
+
+-- ---- refine
+
+-- the stored counts of a walk, whatever stood there
+stored-counts : (done counts : List ℕ) → take (length done) (overwrite 0 done counts) ≡ done
+unfolding overwrite
+stored-counts done counts = take-append-seam done _
+
+module _ (I : Input) (passes : ℕ) (cpp cpp′ : List Float) (counts counts′ : List ℕ) where
+  accepted-alike : judge (inputTests I) ≡ accepted → length cpp ≡ 8450 → length cpp′ ≡ 8450 →
+      RefinesAlike (tilingOf I) (refineAccepted I passes cpp counts) (refineAccepted I passes cpp′ counts′)
+  unfolding refineAccepted
+  accepted-alike ok room room′ =
+      let done = runOne I passes cpp′ (4 * passes) .counts in
+      rw (same-run I ok cpp cpp′ room room′ passes (4 * passes), same-error I ok cpp cpp′ room room′)
+      (record {
+        stats = refl;
+        left = λ z. record {
+          indices = refl;
+          cpe = refl;
+          kernels = same-kernels I ok cpp cpp′ room room′;
+          counts = stored-counts done counts ∙ sym (stored-counts done counts′);
+          inks = refl;
+        };
+      })
+
+  module _ (cpe cpe′ inks inks′ : List Float) (a : length cpe ≡ length cpe′) (b : length cpp ≡ length cpp′) (c : length counts ≡ length counts′) (d : length inks ≡ length inks′) where
+    abbrev verdict : Status
+    verdict = judge (refineTests I passes (length cpe′) (length cpp′) (length counts′) (length inks′))
+
+    valid-of : verdict .number ≡ 0 → ValidRefine I passes (length cpe′) (length cpp′) (length counts′) (length inks′)
+    valid-of z = refine-valid-iff I passes _ _ _ _ .0 (judge-zero (refineTests I passes (length cpe′) (length cpp′) (length counts′) (length inks′)) (refine-numbered I passes _ _ _ _) z)
+
+    judged-alike : (t : Bool) → eqb (verdict .number) 0 ≡ t → RefinesAlike (tilingOf I)
+        (cond t (refineAccepted I passes cpp counts) (refinement (refusedStats verdict) (I .indices) cpe cpp counts inks))
+        (cond t (refineAccepted I passes cpp′ counts′) (refinement (refusedStats verdict) (I .indices) cpe′ cpp′ counts′ inks′))
+    judged-alike true e = let v = valid-of (eqb-true _ _ e) in accepted-alike (valid-iff I .1 (v .valid)) (b ∙ v .cpp-length) (v .cpp-length)
+    judged-alike false e = record { stats = refl; left = λ z. absurd (eqb-false _ _ e z) }
+
+    refines : RefinesAlike (tilingOf I) (refineOf I passes cpe cpp counts inks) (refineOf I passes cpe′ cpp′ counts′ inks′)
+    unfolding refineOf
+    refines = rw (a, b, c, d) (judged-alike (eqb (verdict .number) 0) refl)
+
+-- ---- open
+
+-- what both answers have, the one that is chosen has
+pub either : {A B : Type 0} (f : A → B) (t : Bool) (x y : A) (z : B) → f x ≡ z → f y ≡ z → f (cond t x y) ≡ z
+either f true x y z p q = p
+either f false x y z p q = q
+
+status-is : (O : Opening) → openOf O .status ≡ judge (openTestsOf O)
+unfolding openOf
+status-is O = either (λ (a : Opened). a .status) (isAccepted (judge (openTestsOf O))) _ _ _ refl refl
+
+module _ (O O′ : Opening) (k : AskAlike O O′) where
+  tests-same : openTestsOf O ≡ openTestsOf O′
+  unfolding openTestsOf
+  tests-same = rw (k .input, k .passes, k .cpe, k .cpp, k .counts, k .states, k .deltas, k .inks)
+
+  status-same : openOf O .status ≡ openOf O′ .status
+  status-same = status-is O ∙ ap judge tests-same ∙ sym (status-is O′)
+
+  module _ (ok : openOf O .status ≡ accepted) where
+    input-ok : judge (inputTests (O .input)) ≡ accepted
+    input-ok = valid-iff (O .input) .1 (valid O ok .refine .valid)
+
+    room : length (O .cpp) ≡ 8450
+    room = valid O ok .refine .cpp-length
+
+    room′ : length (O′ .cpp) ≡ 8450
+    room′ = sym (k .cpp) ∙ room
+
+    cpe-same : cpeOf (O .input) (O .cpp) ≡ cpeOf (O′ .input) (O′ .cpp)
+    cpe-same = rw (← k .input) (same-cpe (O .input) input-ok (O .cpp) (O′ .cpp) room room′)
+
+    kernels-same : SameKernels (tilingOf (O .input)) (cppOf (O .input) (O .cpp)) (cppOf (O′ .input) (O′ .cpp))
+    kernels-same = rw (← k .input) (same-kernels (O .input) input-ok (O .cpp) (O′ .cpp) room room′)
+
+    error-same : errorOf (O .input) (O .cpp) ≡ errorOf (O′ .input) (O′ .cpp)
+    error-same = rw (← k .input) (same-error (O .input) input-ok (O .cpp) (O′ .cpp) room room′)
+
+    record-same : firstRecord O ≡ firstRecord O′
+    unfolding firstRecord
+    record-same = rw (error-same, k .input, k .passes)
+
+    runs : (n : ℕ) → phases O n ≡ phases O′ n
+    runs n = rw (← k .input, ← k .passes) (same-run (O .input) input-ok (O .cpp) (O′ .cpp) room room′ (O .passes) n)
+
+  module _ (words words′ : List ℕ) where
+    -- what a run of the right length comes with
+    abbrev answered : Opening → List ℕ → OpenedRun
+    answered P w =
+        let A = openOf P in
+        openedRun (A .status) (cond (eqb (A .status .number) 0) (encode (A .rec)) w) (A .cpe) (A .cpp) (A .states) (A .deltas) (A .inks)
+
+    opened-alike : openOf O .status ≡ accepted → SameOpened (tilingOf (O .input)) (answered O words) (answered O′ words′)
+    opened-alike ok =
+        rw (leaves O ok, leaves O′ (sym status-same ∙ ok))
+        (record {
+          words = ap encode (record-same ok);
+          cpe = cpe-same ok;
+          kernels = kernels-same ok;
+          states = rw (k .input);
+          deltas = rw (k .input);
+          inks = rw (k .input);
+        })
+
+    abbrev ofRun : Status
+    ofRun = judge (runTest words′ ∷ [])
+
+    judged-open : (t : Bool) → eqb (ofRun .number) 0 ≡ t → OpensAlike (tilingOf (O .input))
+        (cond t (answered O words) (openedRun ofRun words (O .cpe) (O .cpp) (O .states) (O .deltas) (O .inks)))
+        (cond t (answered O′ words′) (openedRun ofRun words′ (O′ .cpe) (O′ .cpp) (O′ .states) (O′ .deltas) (O′ .inks)))
+    judged-open true e = record { status = status-same; left = opened-alike }
+    judged-open false e = record { status = refl; left = λ z. absurd (eqb-false _ _ e (ap (λ (s : Status). s .number) z)) }
+
+    opens : length words ≡ length words′ → OpensAlike (tilingOf (O .input)) (openRun words O) (openRun words′ O′)
+    unfolding openRun runTest
+    opens e = rw e (judged-open (eqb (ofRun .number) 0) refl)
+
+-- ---- work
+
+works : (words : List ℕ) (t : ℕ) (pinned : List ℕ) (cpp cpp′ : List Float) (copy : Pixels) (inks : List Float) →
+    length cpp ≡ length cpp′ → SameKernels (decode words .plan .tiling) cpp cpp′ → workRun words t pinned cpp copy inks ≡ workRun words t pinned cpp′ copy inks
+unfolding workRun workOf workTests refinedCopy jobShared
+works words t pinned cpp cpp′ copy inks e k =
+    let r = decode words in
+    let T = r .plan .tiling in
+    rw (e, tile-same T cpp cpp′ k (r .plan .inks) pinned inks (region T t) (tile T t) (state (copy .cpe) (copy .indices) noProgress))
+
+pub whatever-held : WhateverHeld
+whatever-held = record {
+  refines = λ I passes cpe cpe′ cpp cpp′ counts counts′ inks inks′ a b c d. refines I passes cpp cpp′ counts counts′ cpe cpe′ inks inks′ a b c d;
+  opens = λ words words′ O O′ e k. opens O O′ k words words′ e;
+  runs = λ O O′ k ok n. runs O O′ k ok n;
+  works = works;
+}
