@@ -6,6 +6,7 @@ use mathlib.Core.Path.{_≡_, refl, sym, ap, _∙_}
 use mathlib.Core.List.{List, [], _∷_}
 use lib.ListN.{length}
 use lib.Ieee.{Float}
+use Rattle.base.proofs.AnswerLaws.{is-accepted, not-accepted}
 use Rattle.base.specs.declared.Status.{Status}
 use Rattle.base.specs.Refusal.{Test, judge, accepted, Passes}
 use Rattle.base.proofs.RefusalLaws.{Numbered}
@@ -19,7 +20,7 @@ use Rattle.job.specs.Open.{Opening, Opened, opened, openOf}
 use Rattle.job.specs.PutBack.{PutBack, putBack, putBackOf}
 use Rattle.job.specs.Close.{Closed, closed, closeOf}
 use Rattle.job.specs.Boundary.{openedRun, openRun, onRun, wordsAfter, putBackWith, putBackOver, putBackRun, closedWith, closedOver, closeRun}
-use Rattle.job.proofs.Answers.{is-accepted, not-accepted, open-answers, putBack-answers, close-answers}
+use Rattle.job.proofs.Answers.{open-answers, putBack-answers, close-answers}
 
 -- ---- a run that passes has 12 numbers
 

@@ -9,6 +9,7 @@ use mathlib.Core.List.{List, [], _∷_, List·Memᴰ}
 use lib.Dec.{lit≤, eqb}
 use lib.ListN.{length, replicate, length-replicate, getD-replicate}
 use lib.Ieee.{Float, nan}
+use Rattle.base.proofs.AnswerLaws.{accepted-is, is-accepted}
 use Rattle.base.specs.declared.Rect.{Rect}
 use Rattle.base.specs.F64.{f0}
 use Rattle.base.specs.Grid.{area, place, columnAt, rowAt, valueAt, cell, crop}
@@ -39,7 +40,7 @@ use Rattle.job.specs.Boundary.{openRun}
 use Rattle.job.specs.Runs.{Call, take as takeCall, putBack, close, Job, rec, start, ran, answer, after, closesAfter}
 use Rattle.job.specs.Claim.{Own, workOn, WorkMade, Brings, Fair, phases}
 use Rattle.job.proofs.Validity.{work-passes}
-use Rattle.job.proofs.Answers.{accepted-is, is-accepted, work-answers}
+use Rattle.job.proofs.Answers.{work-answers}
 use Rattle.job.proofs.Opened.{opens, run-leaves, starts, valid}
 use Rattle.job.proofs.OnRun.{work-on}
 use Rattle.job.proofs.Merge.{walkSome}

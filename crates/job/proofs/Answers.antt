@@ -2,11 +2,10 @@
 -- what it was given. All of them judge their tests and then choose, so one law serves them all. Assumes nothing.
 use Prim.Native.Nat.{ℕ}
 use native.Mathlib.Omega.{arith}
-use mathlib.Core.Path.{_≡_, refl, sym, ap, ap₂, _∙_}
+use mathlib.Core.Path.{_≡_, refl, sym, ap, _∙_}
 use mathlib.Core.Logic.{_↔_, _≢_}
 use mathlib.Core.Bool.{Bool, true, false, cond}
 use mathlib.Core.List.{List}
-use borrow.Author.Tests.{eqb-true}
 use lib.Dec.{eqb}
 use lib.ListN.{set, replicate}
 use lib.Ieee.{Float}
@@ -15,6 +14,7 @@ use Rattle.base.specs.F64.{f0}
 use Rattle.base.specs.Refusal.{Test, judge, accepted, Passes, isAccepted}
 use Rattle.base.proofs.RefusalLaws.{Numbered, accepted-of, passes-of}
 use Rattle.base.proofs.JudgeLaws.{passes-of-zero, judge-zero}
+use Rattle.base.proofs.AnswerLaws.{is-accepted, not-accepted}
 use Rattle.tiling.specs.Tiling.{tiles}
 use Rattle.input.proofs.Validity.{open-numbered}
 use Rattle.prepare.specs.Prepare.{tilingOf, inksOf, cppOf, cpeOf}
@@ -27,22 +27,6 @@ use Rattle.job.specs.Take.{Taken, taken, takeTests, takeOf}
 use Rattle.job.specs.Work.{Worked, worked, copyTest, workTests, workOf}
 use Rattle.job.specs.PutBack.{PutBack, putBack, countTest, putBackTests, withProgress, putBackOf}
 use Rattle.job.specs.Close.{Closed, closed, closeTests, nextRecord, released, closeOf}
-use Rattle.job.proofs.Bools.{both}
-
-pub accepted-is : (s : Status) → isAccepted s ≡ true → s ≡ accepted
-unfolding isAccepted
-accepted-is s h = let b = both (eqb (s .number) 0) (eqb (s .place) 0) h in ap₂ {C = Status} (λ n p. record { number = n; place = p }) (eqb-true _ _ (b .0)) (eqb-true _ _ (b .1))
-
-pub is-accepted : isAccepted accepted ≡ true
-unfolding isAccepted
-is-accepted = refl
-
-pub not-accepted : (s : Status) → s ≢ accepted → isAccepted s ≡ false
-not-accepted s n = go (isAccepted s) refl
-  where
-    go : (b : Bool) → isAccepted s ≡ b → b ≡ false
-    go true e = absurd (n (accepted-is s e))
-    go false e = refl
 
 -- an answer that is new where its tests pass, and old otherwise
 pub record Answers {A : Type 0} (status : A → Status) (ts : List Test) (new old : Status → A) (given : A) : Type 0 where

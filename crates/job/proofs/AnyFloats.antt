@@ -2,12 +2,12 @@
 use Prim.Native.Nat.{ℕ, _*_, _^_, _<_}
 use native.Mathlib.Omega.{arith}
 use mathlib.Core.Path.{_≡_, refl, sym, ap, _∙_}
-use mathlib.Core.Bool.{Bool, true, false, cond}
+use mathlib.Core.Bool.{Bool, true, false, cond, true≢false}
 use mathlib.Core.List.{List}
-use borrow.Author.Tests.{eqb-false}
 use lib.Dec.{eqb}
 use lib.ListN.{length, getD}
 use lib.Ieee.{Float}
+use Rattle.base.proofs.AnswerLaws.{is-accepted}
 use Rattle.base.specs.declared.Status.{Status}
 use Rattle.base.specs.Grid.{area}
 use Rattle.base.specs.Refusal.{judge, accepted, isAccepted}
@@ -23,7 +23,7 @@ use Rattle.job.specs.Copy.{Pixels, refinedCopy}
 use Rattle.job.specs.Work.{worked, workOf}
 use Rattle.job.specs.PutBack.{PutBack, putBackTests, withProgress, putBackOf}
 use Rattle.job.specs.Close.{Closed, closeTests, nextRecord, nextWith, closeOf}
-use Rattle.job.specs.Boundary.{workRun, wordsAfter, PutBackRun, putBackRun, ClosedRun, closeRun}
+use Rattle.job.specs.Boundary.{onRun, workRun, wordsAfter, PutBackRun, putBackOver, putBackRun, ClosedRun, closedOver, closeRun}
 use Rattle.job.specs.AnyFloats.{WorkKeeps, WordStays, AnyFloats}
 use Rattle.job.proofs.Answers.{work-answers}
 use Rattle.job.proofs.Copies.{region-covers}
@@ -63,23 +63,23 @@ module _ (t : ℕ) (pinned : List ℕ) (cpp : List Float) (copy : Pixels) (inks 
 
   of-run : (words : List ℕ) → workRun words t pinned cpp copy inks .status ≡ accepted →
       WorkKeeps (jobShared (decode words) pinned inks cpp) t copy (workRun words t pinned cpp copy inks .made)
-  unfolding workRun
-  of-run words = go (eqb (s .number) 0) refl
+  unfolding workRun onRun
+  of-run words = go (isAccepted s) refl
     where
       s : Status
       s = judge (wordsTests words)
 
-      go : (b : Bool) → eqb (s .number) 0 ≡ b → let a = cond b (workOf (decode words) t pinned cpp copy inks) (worked s (state (copy .cpe) (copy .indices) noProgress)) in
+      go : (b : Bool) → isAccepted s ≡ b → let a = cond b (workOf (decode words) t pinned cpp copy inks) (worked s (state (copy .cpe) (copy .indices) noProgress)) in
           a .status ≡ accepted → WorkKeeps (jobShared (decode words) pinned inks cpp) t copy (a .made)
       go true e ok = of-work (decode words) ok
-      go false e ok = absurd (eqb-false _ _ e (ap (λ (u : Status). u .number) ok))
+      go false e ok = absurd (true≢false (sym is-accepted ∙ ap isAccepted (sym ok) ∙ e))
 
 -- ---- words that stay
 
 module _ (words : List ℕ) (s : Status) (r : JobRecord) where
   initial-stays : r .plan .initial ≡ decode words .plan .initial → getD words 9 0 < 2 ^ 64 → getD (wordsAfter words s r) 9 0 ≡ getD words 9 0
   unfolding wordsAfter rewritten wordsWith decode
-  initial-stays e h = go (eqb (s .number) 0)
+  initial-stays e h = go (isAccepted s)
     where
       go : (b : Bool) → getD (cond b (rewritten words r) words) 9 0 ≡ getD words 9 0
       go true = ap (wordOver (getD words 9 0)) e ∙ over-same (getD words 9 0) h
@@ -87,7 +87,7 @@ module _ (words : List ℕ) (s : Status) (r : JobRecord) where
 
   error-stays : r .error ≡ decode words .error → getD words 10 0 < 2 ^ 64 → getD (wordsAfter words s r) 10 0 ≡ getD words 10 0
   unfolding wordsAfter rewritten wordsWith decode
-  error-stays e h = go (eqb (s .number) 0)
+  error-stays e h = go (isAccepted s)
     where
       go : (b : Bool) → getD (cond b (rewritten words r) words) 10 0 ≡ getD words 10 0
       go true = ap (wordOver (getD words 10 0)) e ∙ over-same (getD words 10 0) h
@@ -112,20 +112,19 @@ unfolding closeOf nextRecord
 close-initial r counts states deltas = either (λ (a : Closed). a .rec .plan .initial) (isAccepted (judge (closeTests r counts states deltas))) _ _ _ (next-initial r _) refl
 
 words-stay : WordStays
-unfolding putBackRun closeRun
+unfolding putBackRun closeRun onRun putBackOver closedOver
 words-stay = record {
-  word = over-same;
   puts = λ words t image states deltas made h e.
       let r = decode words in
       let a = putBackOf r t image states deltas made in
       let s = judge (wordsTests words) in (
-        either (λ (a : PutBackRun). getD (a .words) 9 0) (eqb (s .number) 0) _ _ _ (initial-stays words (a .status) (a .rec) (put-initial r t image states deltas made) h) refl,
-        either (λ (a : PutBackRun). getD (a .words) 10 0) (eqb (s .number) 0) _ _ _ (error-stays words (a .status) (a .rec) (put-error r t image states deltas made) e) refl,
+        either (λ (a : PutBackRun). getD (a .words) 9 0) (isAccepted s) _ _ _ (initial-stays words (a .status) (a .rec) (put-initial r t image states deltas made) h) refl,
+        either (λ (a : PutBackRun). getD (a .words) 10 0) (isAccepted s) _ _ _ (error-stays words (a .status) (a .rec) (put-error r t image states deltas made) e) refl,
       );
   closes = λ words counts states deltas h.
       let a = closeOf (decode words) counts states deltas in
       let s = judge (wordsTests words) in
-      either (λ (a : ClosedRun). getD (a .words) 9 0) (eqb (s .number) 0) _ _ _ (initial-stays words (a .status) (a .rec) (close-initial (decode words) counts states deltas) h) refl;
+      either (λ (a : ClosedRun). getD (a .words) 9 0) (isAccepted s) _ _ _ (initial-stays words (a .status) (a .rec) (close-initial (decode words) counts states deltas) h) refl;
 }
 
 pub any-floats : AnyFloats

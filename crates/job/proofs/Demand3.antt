@@ -11,6 +11,7 @@ use mathlib.Core.List.{List, [], _∷_, List·Memᴰ, List·Memᴰ·head, List·
 use lib.ListN.{length, getD, length-replicate, getD-replicate}
 use lib.Dec.{eqb}
 use borrow.Author.Tests.{ne-eqb}
+use Rattle.base.proofs.AnswerLaws.{accepted-is, is-accepted, not-accepted}
 use Rattle.base.specs.F64.{f0}
 use Rattle.base.specs.declared.Rect.{Rect}
 use Rattle.base.specs.Grid.{area, Inside, place, columnAt, rowAt, valueAt, cell}
@@ -49,7 +50,7 @@ use Rattle.job.specs.Companions.{Doubles}
 use Rattle.job.specs.Demand1.{ValidRun}
 use Rattle.job.proofs.Merge.{Half, pixelsNow, walkSome, walk-reached}
 use Rattle.job.proofs.Validity.{take-passes, putBack-passes, close-passes}
-use Rattle.job.proofs.Answers.{accepted-is, is-accepted, not-accepted, take-answers, putBack-answers, close-answers}
+use Rattle.job.proofs.Answers.{take-answers, putBack-answers, close-answers}
 use Rattle.job.proofs.Opened.{opens, run-leaves, starts, valid, ready}
 use Rattle.job.proofs.WordsLaws.{encoded, over}
 use Rattle.job.proofs.Fine.{initial-fine, walk-fine}

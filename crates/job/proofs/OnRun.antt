@@ -5,6 +5,7 @@ use mathlib.Core.List.{List}
 use lib.ListN.{length, getD}
 use lib.Ieee.{Float}
 use borrow.Author.Tests.{eq-eqb, le-ltb}
+use Rattle.base.proofs.AnswerLaws.{is-accepted}
 use Rattle.base.specs.declared.Status.{Status}
 use Rattle.base.specs.Refusal.{judge, accepted}
 use Rattle.tile.specs.Tile.{State}
@@ -17,7 +18,6 @@ use Rattle.job.specs.PutBack.{putBackOf}
 use Rattle.job.specs.Close.{closeOf}
 use Rattle.job.specs.Boundary.{onRun, takeRun, workRun, putBackOver, putBackRun, closedOver, closeRun}
 use Rattle.job.specs.Demand1.{ValidRun}
-use Rattle.job.proofs.Answers.{is-accepted}
 
 -- ---- a run that passes
 

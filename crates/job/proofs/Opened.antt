@@ -4,6 +4,7 @@ use mathlib.Core.Path.{_≡_, refl, sym, ap, _∙_}
 use mathlib.Core.Bool.{Bool, true, false, cond, true≢false}
 use mathlib.Core.List.{List, [], _∷_}
 use lib.ListN.{length, replicate}
+use Rattle.base.proofs.AnswerLaws.{is-accepted}
 use Rattle.base.specs.F64.{f0}
 use Rattle.base.specs.Refusal.{judge, accepted, isAccepted}
 use Rattle.base.proofs.RefusalLaws.{accepted-of}
@@ -20,7 +21,7 @@ use Rattle.job.specs.Words.{runTest, encode}
 use Rattle.job.specs.Open.{Opening, Opened, openTestsOf, firstRecord, openOf}
 use Rattle.job.specs.Boundary.{OpenedRun, openedRun, openRun}
 use Rattle.job.specs.Runs.{start}
-use Rattle.job.proofs.Answers.{is-accepted, open-answers}
+use Rattle.job.proofs.Answers.{open-answers}
 
 module _ (O : Opening) (ok : openOf O .status ≡ accepted) where
   abbrev I : Input

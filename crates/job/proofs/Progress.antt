@@ -13,6 +13,7 @@ use lib.Seq.{getD-set-same, getD-set-other}
 use lib.Dec.{ltb}
 use lib.Ieee.{nan}
 use borrow.Author.Tests.{ltb-true, ltb-false}
+use Rattle.base.proofs.AnswerLaws.{is-accepted}
 use Rattle.base.specs.Grid.{area}
 use Rattle.base.specs.Refusal.{accepted, isAccepted}
 use Rattle.base.proofs.GridLaws.{length-crop}
@@ -38,7 +39,7 @@ use Rattle.job.specs.Runs.{Call, Job, rec, answer, after, isClose, close
 use Rattle.job.specs.Claim.{Own, WorkMade, Brings, Fair, phases}
 use Rattle.job.specs.Companions.{missing, sumTo, AllAccepted, closesIn, Closing, Progress, Doubles}
 use Rattle.job.proofs.Merge.{brought, pixelsNow}
-use Rattle.job.proofs.Answers.{is-accepted, take-answers, work-answers, putBack-answers, close-answers}
+use Rattle.job.proofs.Answers.{take-answers, work-answers, putBack-answers, close-answers}
 use Rattle.job.proofs.Validity.{take-passes, work-passes, putBack-passes, close-passes}
 use Rattle.job.proofs.Opened.{opens, run-leaves, valid, radii, ready}
 use Rattle.job.proofs.OnRun.{work-on}

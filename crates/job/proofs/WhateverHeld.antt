@@ -2,21 +2,18 @@
 -- buffers for their lengths only. Assumes nothing.
 use Prim.Native.Nat.{ℕ, _*_}
 use mathlib.Core.Path.{_≡_, refl, sym, ap, _∙_}
-use mathlib.Core.Bool.{Bool, true, false, cond}
+use mathlib.Core.Bool.{Bool, true, false, cond, true≢false}
 use mathlib.Core.List.{List, [], _∷_}
-use borrow.Author.Tests.{eqb-true, eqb-false}
-use lib.Dec.{eqb}
 use lib.ListN.{length, take}
 use lib.Seq.{take-append-seam}
 use lib.Ieee.{Float}
 use Rattle.base.specs.declared.Status.{Status}
 use Rattle.base.specs.Loop.{overwrite}
 use Rattle.base.specs.Refusal.{judge, accepted, isAccepted}
-use Rattle.base.proofs.JudgeLaws.{judge-zero}
 use Rattle.tiling.specs.Tiling.{tile, region}
 use Rattle.input.specs.Input.{Input, inputTests, refineTests}
 use Rattle.input.specs.Valid.{ValidRefine}
-use Rattle.input.proofs.Validity.{valid-iff, refine-valid-iff, refine-numbered}
+use Rattle.input.proofs.Validity.{valid-iff, refine-valid-iff}
 use Rattle.tile.specs.Tile.{state, noProgress}
 use Rattle.prepare.specs.Prepare.{tilingOf, cppOf, cpeOf, errorOf, runOne}
 use Rattle.prepare.specs.SameKernels.{SameKernels}
@@ -27,10 +24,11 @@ use Rattle.job.specs.Words.{runTest, decode, encode}
 use Rattle.job.specs.Copy.{Pixels, refinedCopy}
 use Rattle.job.specs.Open.{Opening, Opened, openTestsOf, firstRecord, openOf}
 use Rattle.job.specs.Work.{workTests, workOf}
-use Rattle.job.specs.Boundary.{OpenedRun, openedRun, openRun, workRun}
+use Rattle.job.specs.Boundary.{OpenedRun, openedRun, openRun, onRun, workRun}
 use Rattle.job.specs.Claim.{phases}
 use Rattle.job.specs.WhateverHeld.{RefinesAlike, AskAlike, SameOpened, OpensAlike, WhateverHeld}
-use Rattle.job.proofs.Opened.{leaves, valid}
+use Rattle.base.proofs.AnswerLaws.{accepted-is, is-accepted}
+use Rattle.job.proofs.Opened.{leaves, opens as run-opens, valid}
 
 -- ---- refine
 
@@ -61,18 +59,15 @@ module _ (I : Input) (passes : ℕ) (cpp cpp′ : List Float) (counts counts′ 
     abbrev verdict : Status
     verdict = judge (refineTests I passes (length cpe′) (length cpp′) (length counts′) (length inks′))
 
-    valid-of : verdict .number ≡ 0 → ValidRefine I passes (length cpe′) (length cpp′) (length counts′) (length inks′)
-    valid-of z = refine-valid-iff I passes _ _ _ _ .0 (judge-zero (refineTests I passes (length cpe′) (length cpp′) (length counts′) (length inks′)) (refine-numbered I passes _ _ _ _) z)
-
-    judged-alike : (t : Bool) → eqb (verdict .number) 0 ≡ t → RefinesAlike (tilingOf I)
+    judged-alike : (t : Bool) → isAccepted verdict ≡ t → RefinesAlike (tilingOf I)
         (cond t (refineAccepted I passes cpp counts) (refinement (refusedStats verdict) (I .indices) cpe cpp counts inks))
         (cond t (refineAccepted I passes cpp′ counts′) (refinement (refusedStats verdict) (I .indices) cpe′ cpp′ counts′ inks′))
-    judged-alike true e = let v = valid-of (eqb-true _ _ e) in accepted-alike (valid-iff I .1 (v .valid)) (b ∙ v .cpp-length) (v .cpp-length)
-    judged-alike false e = record { stats = refl; left = λ z. absurd (eqb-false _ _ e z) }
+    judged-alike true e = let v = refine-valid-iff I passes _ _ _ _ .0 (accepted-is verdict e) in accepted-alike (valid-iff I .1 (v .valid)) (b ∙ v .cpp-length) (v .cpp-length)
+    judged-alike false e = record { stats = refl; left = λ z. absurd (true≢false (sym is-accepted ∙ ap isAccepted (sym z) ∙ e)) }
 
     refines : RefinesAlike (tilingOf I) (refineOf I passes cpe cpp counts inks) (refineOf I passes cpe′ cpp′ counts′ inks′)
     unfolding refineOf
-    refines = rw (a, b, c, d) (judged-alike (eqb (verdict .number) 0) refl)
+    refines = rw (a, b, c, d) (judged-alike (isAccepted verdict) refl)
 
 -- ---- open
 
@@ -124,11 +119,11 @@ module _ (O O′ : Opening) (k : AskAlike O O′) where
     abbrev answered : Opening → List ℕ → OpenedRun
     answered P w =
         let A = openOf P in
-        openedRun (A .status) (cond (eqb (A .status .number) 0) (encode (A .rec)) w) (A .cpe) (A .cpp) (A .states) (A .deltas) (A .inks)
+        openedRun (A .status) (cond (isAccepted (A .status)) (encode (A .rec)) w) (A .cpe) (A .cpp) (A .states) (A .deltas) (A .inks)
 
     opened-alike : openOf O .status ≡ accepted → SameOpened (tilingOf (O .input)) (answered O words) (answered O′ words′)
     opened-alike ok =
-        rw (leaves O ok, leaves O′ (sym status-same ∙ ok))
+        rw (leaves O ok, leaves O′ (sym status-same ∙ ok), is-accepted)
         (record {
           words = ap encode (record-same ok);
           cpe = cpe-same ok;
@@ -141,21 +136,21 @@ module _ (O O′ : Opening) (k : AskAlike O O′) where
     abbrev ofRun : Status
     ofRun = judge (runTest words′ ∷ [])
 
-    judged-open : (t : Bool) → eqb (ofRun .number) 0 ≡ t → OpensAlike (tilingOf (O .input))
+    judged-open : (t : Bool) → isAccepted ofRun ≡ t → OpensAlike (tilingOf (O .input))
         (cond t (answered O words) (openedRun ofRun words (O .cpe) (O .cpp) (O .states) (O .deltas) (O .inks)))
         (cond t (answered O′ words′) (openedRun ofRun words′ (O′ .cpe) (O′ .cpp) (O′ .states) (O′ .deltas) (O′ .inks)))
     judged-open true e = record { status = status-same; left = opened-alike }
-    judged-open false e = record { status = refl; left = λ z. absurd (eqb-false _ _ e (ap (λ (s : Status). s .number) z)) }
+    judged-open false e = record { status = refl; left = λ z. absurd (true≢false (sym is-accepted ∙ ap isAccepted (sym z) ∙ e)) }
 
     opens : length words ≡ length words′ → OpensAlike (tilingOf (O .input)) (openRun words O) (openRun words′ O′)
     unfolding openRun runTest
-    opens e = rw e (judged-open (eqb (ofRun .number) 0) refl)
+    opens e = rw e (judged-open (isAccepted ofRun) refl)
 
 -- ---- work
 
 works : (words : List ℕ) (t : ℕ) (pinned : List ℕ) (cpp cpp′ : List Float) (copy : Pixels) (inks : List Float) →
     length cpp ≡ length cpp′ → SameKernels (decode words .plan .tiling) cpp cpp′ → workRun words t pinned cpp copy inks ≡ workRun words t pinned cpp′ copy inks
-unfolding workRun workOf workTests refinedCopy jobShared
+unfolding workRun onRun workOf workTests refinedCopy jobShared
 works words t pinned cpp cpp′ copy inks e k =
     let r = decode words in
     let T = r .plan .tiling in
@@ -165,6 +160,6 @@ pub whatever-held : WhateverHeld
 whatever-held = record {
   refines = λ I passes cpe cpe′ cpp cpp′ counts counts′ inks inks′ a b c d. refines I passes cpp cpp′ counts counts′ cpe cpe′ inks inks′ a b c d;
   opens = λ words words′ O O′ e k. opens O O′ k words words′ e;
-  runs = λ O O′ k ok n. runs O O′ k ok n;
+  runs = λ words O O′ k ok n. runs O O′ k (run-opens words O ok) n;
   works = works;
 }

@@ -6,7 +6,7 @@ use mathlib.Core.Path.{_≡_}
 use mathlib.Core.Bool.{true}
 use mathlib.Core.List.{List}
 use lib.ListN.{length, getD}
-use lib.Ieee.{Float, binary64, ofBits}
+use lib.Ieee.{Float}
 use Rattle.base.specs.Grid.{Inside}
 use Rattle.base.specs.Refusal.{accepted}
 use Rattle.tiling.specs.Tiling.{tile, region}
@@ -14,7 +14,7 @@ use Rattle.pins.specs.Pins.{pinnedAt}
 use Rattle.search.specs.Shared.{Shared, indexAt, Named}
 use Rattle.tile.specs.Tile.{State, state, noProgress, unpinned, grown}
 use Rattle.job.specs.Record.{jobShared}
-use Rattle.job.specs.Words.{decode, wordOver}
+use Rattle.job.specs.Words.{decode}
 use Rattle.job.specs.Copy.{Pixels}
 use Rattle.job.specs.Boundary.{workRun, putBackRun, closeRun}
 
@@ -38,10 +38,9 @@ abbrev pub WorksKeep : Type 0
 WorksKeep = (words : List ℕ) (t : ℕ) (pinned : List ℕ) (cpp : List Float) (copy : Pixels) (inks : List Float) → workRun words t pinned cpp copy inks .status ≡ accepted →
     WorkKeeps (jobShared (decode words) pinned inks cpp) t copy (workRun words t pinned cpp copy inks .made)
 
--- ---- the errors in the run: a word stays as it came, also a NaN's, while its float stays
+-- ---- the errors in the run: a word stays as it came, also a NaN's, while its float stays (`RoundTrip` of Companions.antt)
 
 pub record WordStays : Type 0 where
-  pub word : (old : ℕ) → old < 2 ^ 64 → wordOver old (ofBits binary64 old) ≡ old
   -- put back changes neither error, close not the initial one
   pub puts : (words : List ℕ) (t : ℕ) (image : Pixels) (states : List ℕ) (deltas : List Float) (made : State) → getD words 9 0 < 2 ^ 64 → getD words 10 0 < 2 ^ 64 →
       let after = putBackRun words t image states deltas made .words in (getD after 9 0 ≡ getD words 9 0) × (getD after 10 0 ≡ getD words 10 0)

@@ -12,10 +12,10 @@ use Rattle.tiling.specs.declared.Tiling.{Tiling}
 use Rattle.input.specs.Input.{Input}
 use Rattle.prepare.specs.Prepare.{tilingOf}
 use Rattle.prepare.specs.SameKernels.{SameKernels}
-use Rattle.refine.specs.Refine.{Refinement, refineOf}
+use Rattle.refine.specs.Refine.{Refinement, refineStatus, refineOf}
 use Rattle.job.specs.Words.{decode}
 use Rattle.job.specs.Copy.{Pixels}
-use Rattle.job.specs.Open.{Opening, openOf}
+use Rattle.job.specs.Open.{Opening}
 use Rattle.job.specs.Boundary.{OpenedRun, openRun, workRun}
 use Rattle.job.specs.Claim.{phases}
 
@@ -31,7 +31,7 @@ pub record SameRefined (T : Tiling) (R R′ : Refinement) : Type 0 where
 -- `stats`: number and place, passes run, initial and final error
 pub record RefinesAlike (T : Tiling) (R R′ : Refinement) : Type 0 where
   pub stats : R .stats ≡ R′ .stats
-  pub left : R .stats .number ≡ 0 → SameRefined T R R′
+  pub left : refineStatus R ≡ accepted → SameRefined T R R′
 
 -- ---- open, as C hosts call it
 
@@ -67,7 +67,7 @@ pub record WhateverHeld : Type 0 where
       RefinesAlike (tilingOf I) (refineOf I passes cpe cpp counts inks) (refineOf I passes cpe′ cpp′ counts′ inks′)
   pub opens : (words words′ : List ℕ) (O O′ : Opening) → length words ≡ length words′ → AskAlike O O′ → OpensAlike (tilingOf (O .input)) (openRun words O) (openRun words′ O′)
   -- run one of demand 3, after every phase
-  pub runs : (O O′ : Opening) → AskAlike O O′ → openOf O .status ≡ accepted → (n : ℕ) → phases O n ≡ phases O′ n
+  pub runs : (words : List ℕ) (O O′ : Opening) → AskAlike O O′ → openRun words O .status ≡ accepted → (n : ℕ) → phases O n ≡ phases O′ n
   -- and a work call on either store: it reads both kernels and no other cell
   pub works : (words : List ℕ) (t : ℕ) (pinned : List ℕ) (cpp cpp′ : List Float) (copy : Pixels) (inks : List Float) →
       length cpp ≡ length cpp′ → SameKernels (decode words .plan .tiling) cpp cpp′ → workRun words t pinned cpp copy inks ≡ workRun words t pinned cpp′ copy inks
