@@ -65,8 +65,9 @@ impl Job {
         }
     }
 
-    /// The first cell that differs after a call that was given `before`, if any does.
-    fn difference(&self, before: &Self, expected: &Self) -> Option<String> {
+    /// The first cell that differs, if any does. Floats too are compared by bits: no call computes one that it
+    /// leaves in a job's buffers, but an accepted open, whose floats are numbers.
+    fn difference(&self, expected: &Self) -> Option<String> {
         let (a, b) = (&self.lent, &expected.lent);
         first("record", &self.record, &expected.record)
             .or_else(|| first("pinned", &self.pinned, &expected.pinned))
@@ -75,20 +76,19 @@ impl Job {
             .or_else(|| first("accepted_per_pass", &a.accepted_per_pass, &b.accepted_per_pass))
             .or_else(|| first("inks", &a.inks, &b.inks))
             .or_else(|| first("cpp", &a.cpp, &b.cpp))
-            .or_else(|| floats("deltas", Some(&before.deltas), &self.deltas, &expected.deltas))
-            .or_else(|| floats("cpe", Some(&before.lent.cpe), &a.cpe, &b.cpe))
+            .or_else(|| first("deltas", &self.deltas, &expected.deltas))
+            .or_else(|| first("cpe", &a.cpe, &b.cpe))
     }
 }
 
 /// Opens a job by the library; how this differs from document 01, if it does.
 pub fn open(call: &Call, job: &mut Job) -> ((u64, u64), Option<String>) {
-    let before = job.clone();
     let mut wanted = job.clone();
     let expected = job_expected::open(call, &mut wanted);
     let found = job_library::open(call, job);
     let answer = |(number, place): (u64, u64)| [number, place];
     let difference = first("answer", &answer(found), &answer(expected));
-    (found, difference.or_else(|| job.difference(&before, &wanted)))
+    (found, difference.or_else(|| job.difference(&wanted)))
 }
 
 /// Makes a job call by the library; how this differs from document 01, if it does.
@@ -97,27 +97,32 @@ pub fn call(kind: Kind, job: &mut Job, copy: &mut TileCopy) -> (Answer, Option<S
     let mut wanted = before.clone();
     let expected = job_expected::call(kind, &mut wanted.0, &mut wanted.1);
     let found = job_library::call(kind, job, copy);
-    let answer = |a: &Answer| [a.number, a.place, a.accepted];
-    // What a NaN becomes in a computation no document decides.
-    let kept = (kind != Kind::Work || expected.number > 0).then_some(&before.1.cpe[..]);
+    let answer = |a: &Answer| [a.number, a.place, a.accepted, a.delta];
+    let moved = kind == Kind::Work && expected.accepted > 0;
+    if moved {
+        settle(&before.1.cpe, &copy.cpe, &mut wanted.1.cpe);
+    }
     let difference = first("answer", &answer(&found), &answer(&expected))
-        .or_else(|| floats("delta", None, &[found.delta], &[expected.delta]))
-        .or_else(|| job.difference(&before.0, &wanted.0))
+        .or_else(|| job.difference(&wanted.0))
         .or_else(|| first("copy_indices", &copy.indices, &wanted.1.indices))
-        .or_else(|| floats("copy_cpe", kept, &copy.cpe, &wanted.1.cpe));
+        .or_else(|| first("copy_cpe", &copy.cpe, &wanted.1.cpe));
     let case = |d: String| format!("{d}; {kind:?} tile {} of {:?}", copy.tile, before.0.record);
     (found, difference.map(case))
 }
 
-/// The first float that differs, if any does. A NaN equals another, but not where the cell was to keep what
-/// it held before.
-fn floats(name: &str, before: Option<&[u64]>, found: &[u64], expected: &[u64]) -> Option<String> {
-    let same = |i: usize| {
-        let stays = before.is_some_and(|before| before[i] == expected[i]);
-        !stays && is_nan(found[i]) && is_nan(expected[i])
-    };
-    let found: Vec<u64> = (0..found.len()).map(|i| if same(i) { expected[i] } else { found[i] }).collect();
-    first(name, &found, expected)
+/// Where moves were made: no document decides which NaN a sum with a NaN is, so the one found is the one expected.
+/// A signalling one that stayed was not added to: no sum is signalling.
+fn settle(before: &[u64], found: &[u64], expected: &mut [u64]) {
+    for ((&before, &found), expected) in before.iter().zip(found).zip(expected) {
+        let stayed = is_signalling(before) && before == *expected;
+        if !stayed && is_nan(found) && is_nan(*expected) {
+            *expected = found;
+        }
+    }
+}
+
+pub fn is_signalling(bits: u64) -> bool {
+    is_nan(bits) && bits & 1 << 51 == 0
 }
 
 pub fn is_nan(bits: u64) -> bool {

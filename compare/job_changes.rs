@@ -6,12 +6,16 @@ use crate::tiles::{area, Tiling};
 
 /// Changes one thing that a call is given beside its record.
 pub fn change(r: &mut Random, tiling: &Tiling, job: &mut Job, copy: &mut TileCopy) {
-    match r.below(8) {
+    match r.below(12) {
         0..=2 => change_length(r, job, copy),
         3 => copy.tile = other_tile(r, tiling, copy.tile),
         4 => copy.accepted = other_count(r, tiling, job, copy.tile),
         5 => set_one(r, &mut copy.indices, |r| r.byte()),
         6 => set_one(r, &mut job.tile_states, |r| r.pick(&[0, 1, 2, 3, 255])),
+        7 => set_one(r, &mut copy.cpe, wild),
+        8 => set_one(r, &mut job.lent.cpe, wild),
+        9 => set_one(r, &mut job.deltas, wild),
+        10 => set_one(r, &mut job.lent.inks, wild),
         _ => copy.delta = wild(r),
     }
 }
@@ -54,10 +58,17 @@ pub fn wild(r: &mut Random) -> u64 {
     ];
     match r.below(4) {
         0 => r.next(),
-        // Any NaN, or an infinity.
-        1 => r.pick(&[0x7ff0_0000_0000_0000, 0xfff8_0000_0000_0000]) + r.pick(&[0, 1, 2, 0xdead_beef]),
+        1 => nan(r),
         _ => r.pick(&FLOATS).to_bits(),
     }
+}
+
+/// Bits of a NaN: quiet or signalling, of either sign, with any payload.
+fn nan(r: &mut Random) -> u64 {
+    let sign = r.pick(&[0, 1 << 63]);
+    let quiet = r.pick(&[0, 1 << 51]);
+    let payload = r.pick(&[1, 2, 0xdead_beef, (1 << 51) - 1]);
+    0x7ff0_0000_0000_0000 + sign + quiet + payload
 }
 
 fn change_length(r: &mut Random, job: &mut Job, copy: &mut TileCopy) {

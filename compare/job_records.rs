@@ -17,6 +17,7 @@ pub fn compare(seed: u64, scale: f64) -> Section {
     let mut section = Section::new("job calls on any record");
     let mut r = Random(seed);
     let mut answers = BTreeMap::new();
+    let (mut quiet, mut signalling) = (0, 0);
     opens(&mut r, &mut section);
     for i in 0..(100_000.0 * scale) as u64 {
         let kind = r.pick(&[Kind::Take, Kind::Work, Kind::PutBack, Kind::Close]);
@@ -30,9 +31,15 @@ pub fn compare(seed: u64, scale: f64) -> Section {
         }
         let (answer, difference) = call(kind, &mut job, &mut copy);
         *answers.entry((format!("{kind:?}"), answer.number)).or_insert(0) += 1;
+        if answer.number == 0 && matches!(kind, Kind::Take | Kind::PutBack) {
+            let nans = || copy.cpe.iter().filter(|&&bits| is_nan(bits));
+            quiet += nans().filter(|&&bits| !is_signalling(bits)).count();
+            signalling += nans().filter(|&&bits| is_signalling(bits)).count();
+        }
         section.check(format_args!("call {i}"), difference);
     }
     let answers: Vec<_> = answers.iter().map(|((kind, number), count)| format!("{kind} {number}: {count}")).collect();
+    println!("NaNs that take and put back copied: {quiet} quiet, {signalling} signalling");
     println!("answers of job calls on any record by number: {}", answers.join(", "));
     println!("{}: {}, {:.1} s", section.name, section.count, start.elapsed().as_secs_f64());
     section

@@ -1,5 +1,5 @@
 // Floats as bits. A NaN has many patterns and is one value: each of them is read as it, and it is written as
-// the pattern with only the highest digit set.
+// 7ff8000000000000: no sign, all of the exponent, and of the fraction the highest digit only.
 ghost use mathlib.Core.Path.{_≡_};
 ghost use lib.Ieee.{binary64, ofBits, toBits, nanBits};
 

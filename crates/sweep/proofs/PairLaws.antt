@@ -1,4 +1,4 @@
--- Two kernels added at once are the one added whole and then the other. Assumes nothing.
+-- A row that both kernels reach: adding both to its part of `cpe` pixel by pixel is `shareRow` on all of `cpe`. Assumes nothing.
 use Prim.Native.Nat.{ℕ, _+_, _-_, _*_, _<_, _≤_, max, min}
 use native.Mathlib.Omega.{arith}
 use mathlib.Core.Path.{_≡_, refl, sym, ap, _∙_}

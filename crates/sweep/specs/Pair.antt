@@ -1,5 +1,5 @@
 -- Two kernels added at once, as a swap asks for: where both reach, each pixel grows by the one and then by the other; then what the
--- one reaches alone, then the other. proofs/PairLaws.antt says that this is the one added whole, then the other.
+-- one reaches alone, then the other. That this is the one added whole and then the other is `pair-is` of proofs/PairPoint.antt.
 use mathlib.Core.Path.{_≡_}
 use mathlib.Core.Bool.{cond}
 use mathlib.Core.List.{List}

@@ -3,7 +3,7 @@ use base::Rect;
 use tiling::Tiling;
 ghost use mathlib.Core.Path.{_≡_};
 ghost use Prim.Native.Nat.{_+_, _*_, _<_, _≤_, _^_};
-ghost use lib.ListN.{length};
+ghost use lib.ListN.{length, set};
 ghost use lib.Ieee.{Float};
 ghost use Rattle.base.specs.Loop.{overwrite};
 ghost use Rattle.tiling.specs.Tiling.{Limits, image, tiles};
@@ -130,6 +130,14 @@ fn walk_pass(
     walk_tiles(cpe, indices, pinned, inks, cpp, count, t, 3, third)
 }
 
+// The moves of a pass, stored after its last phase.
+fn store_count(accepted_per_pass: &mut [u32], pass: usize, accepted: usize)
+    requires { ⌜ (pass < length (now «accepted_per_pass»)) × (accepted < 2 ^ 32) ⌝ }
+    ensures { λ _. ⌜ now («accepted_per_pass» .exit) ≡ set (now («accepted_per_pass» .entry)) pass accepted ⌝ }
+{
+    accepted_per_pass[pass] = accepted as u32;
+}
+
 // As many passes as there are counts, or until one accepts no move: the walk from its start to its end.
 pub fn refine_passes(
     cpe: &mut [f64],
@@ -151,7 +159,7 @@ pub fn refine_passes(
         let run = walk_pass(cpe, indices, pinned, inks, cpp, count, t, e);
         e = run.error;
         let accepted = run.accepted;
-        accepted_per_pass[pass] = accepted as u32;
+        store_count(accepted_per_pass, pass, accepted);
         pass += 1;
         if accepted == 0 {
             return Outcome {

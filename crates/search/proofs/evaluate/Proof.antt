@@ -1,14 +1,16 @@
 -- `search::evaluate` meets its contract: the pixel lies in the window, its index names an ink, and the two loops are those of the definition. Assumes nothing.
-use mathlib.Core.Path.{_≡_, refl, _∙_}
+use mathlib.Core.Path.{_≡_, refl, ap, _∙_}
 use Prim.Native.Nat.{_<_}
 use native.Mathlib.Omega.{arith}
 use borrow.Author.Needs.{needs}
 use Rattle.base.specs.Grid.{Inside}
-use Rattle.search.specs.Search.{noMove, toggles, evaluateOf}
+use Rattle.base.specs.Loop.{upTo}
+use Rattle.search.specs.Search.{noMove, tryToggle, toggles, evaluateOf}
 use lib.Ieee.{neg, ofBits, round}
 use Rattle.base.specs.F64.{f64}
 use Rattle.search.specs.declared.Best.{Best}
 use Rattle.search.specs.declared.Choice.{Choice}
+use Rattle.search.specs.declared.Site.{Site}
 use Rattle.search.specs.Fast.{bestOf, moveOf}
 use Rattle.search.proofs.Window.{ready-limits, ready-index, held-inside}
 use Rattle.search.proofs.evaluate.Statement.{statement}
@@ -64,8 +66,12 @@ move-of-requires c κs = search needs
 returns : tie.Need-returns
 unfolding evaluateOf toggles
 returns c =
+    let a = c .before .before .before .before .before .before .before .before .before .before .before .before .before .before .args in
+    let site : Site = record { k = c .before .before .before .before .before .index-at .result; c = c .before .before .before .before .cpe-at .result } in
+    let all = upTo (tryToggle (a .inks .now) (a .p) site) (a .count) in
+    let toggled : bestOf (c .before .before .best-toggle .result) ≡ all noMove = c .before .before .best-toggle .ensures ∙ ap all start-is in
     rw (c .move-of .ensures)
-    (best-is (c .before .weigh-swaps .result) ∙ c .before .weigh-swaps .ensures ∙ rw (c .before .before .best-toggle .ensures, start-is, c .before .before .before .before .before .before .before .before .before .before .before .before .before .before .pre .1 .1 .1, c .before .before .before .before .cpe-at .ensures, c .before .before .before .before .before .index-at .ensures))
+    (best-is (c .before .weigh-swaps .result) ∙ c .before .weigh-swaps .ensures ∙ rw (toggled, c .before .before .before .before .before .before .before .before .before .before .before .before .before .before .pre .1 .1 .1, c .before .before .before .before .cpe-at .ensures, c .before .before .before .before .before .index-at .ensures))
 
 pub evaluate-spec : {M : Type 1} → statement M
 evaluate-spec =

@@ -1,12 +1,13 @@
 -- `search::partner` meets its contract: the neighbour lies in the window, and each arm is the one that the tests pick. Assumes nothing.
 use mathlib.Core.Path.{_≡_, sym, _∙_}
-use mathlib.Core.Bool.{false}
+use mathlib.Core.Bool.{true, false}
 use Prim.Native.Nat.{ℕ}
 use native.Mathlib.Omega.{arith}
 use lib.Dec.{eqb}
 use borrow.Author.Tests.{eq-eqb, ne-eqb}
 use borrow.Author.Needs.{needs}
 use Rattle.base.specs.Grid.{Inside}
+use Rattle.pins.specs.Pins.{pinnedAt}
 use Rattle.neighbour.specs.Neighbour.{neighbourOf}
 use Rattle.neighbour.specs.declared.Adjacent.the-variants.{Pixel}
 use Rattle.neighbour.proofs.Laws.{Beside}
@@ -71,13 +72,19 @@ returns-3 : tie.Need-returns-3
 unfolding partnerOf
 returns-3 c = λ count inks cpp.
     let at = c .before .before in
-    rw (found (at .before .before .before), other at, sym (c .before .is-pinned .ensures) ∙ c .if2 .taken)
+    let n = at .before .before .before in
+    let a = start n .args in
+    let held : pinnedAt (a .pinned .now) (a .t .width) (nx n) (ny n) ≡ true = sym (c .before .is-pinned .ensures) ∙ c .if2 .taken in
+    rw (found n, other at, held)
 
 returns-4 : tie.Need-returns-4
 unfolding partnerOf
 returns-4 c = λ count inks cpp.
     let at = c .before .before in
-    rw (found (at .before .before .before), other at, sym (c .before .is-pinned .ensures) ∙ c .if2 .left)
+    let n = at .before .before .before in
+    let a = start n .args in
+    let free : pinnedAt (a .pinned .now) (a .t .width) (nx n) (ny n) ≡ false = sym (c .before .is-pinned .ensures) ∙ c .if2 .left in
+    rw (found n, other at, free)
 
 pub partner-spec : {M : Type 1} → statement M
 partner-spec =

@@ -1,4 +1,7 @@
 -- `search::try_toggle` meets its contract: each arm is the one that the test picks. Assumes nothing.
+use mathlib.Core.Path.{_≡_}
+use mathlib.Core.Bool.{true}
+use lib.Dec.{eqb}
 use borrow.Author.Tests.{eq-eqb, ne-eqb}
 use borrow.Author.Needs.{needs}
 use Rattle.search.specs.Search.{tryToggle}
@@ -8,7 +11,10 @@ use Rattle.search.proofs.try_toggle.Tie as tie
 
 returns : tie.Need-returns
 unfolding tryToggle
-returns c = simp (eq-eqb _ _ (c .if1 .taken))
+returns c =
+    let a = c .before .before .before .args in
+    let own : eqb (a .j) (a .s .k) ≡ true = eq-eqb _ _ (c .if1 .taken) in
+    simp own
 
 mul-values-at : tie.Need-mul-values-at
 mul-values-at c = search needs

@@ -24,42 +24,36 @@ loop-holds c = (omega arith, refl, rests-none _ _ (c .before .before .before .be
 walk-pass-requires : tie.Need-walk-pass-requires Inv-loop μ-loop
 walk-pass-requires c κs = ready-image _ (c .before .before .before .before .before .before .before .before .before .before .pre) (c .before .before .before .loop .inv .2 .sound)
 
-cast-accepted-per-pass : tie.Need-cast-accepted-per-pass Inv-loop μ-loop
-cast-accepted-per-pass c = record { fits = c .before .before .before .before .walk-pass .ensures .1 }
-
-mul-accepted-per-pass : tie.Need-mul-accepted-per-pass Inv-loop μ-loop
-mul-accepted-per-pass c = search needs
-
-slice-write-accepted-per-pass : tie.Need-slice-write-accepted-per-pass Inv-loop μ-loop
-slice-write-accepted-per-pass c = search needs
+store-count-requires : tie.Need-store-count-requires Inv-loop μ-loop
+store-count-requires c κs = (omega (arith, c .before .before .before .before .before .before .before .before .loop-test .taken, c .before .before .before .before .before .before .before .before .before .loop .inv .1), c .before .before .before .before .before .walk-pass .ensures .1)
 
 add-pass : tie.Need-add-pass Inv-loop μ-loop
 add-pass c = search needs
 
 same-length : tie.Need-same-length Inv-loop μ-loop
-same-length c = c .before .before .before .before .before .walk-pass .kept .0 ∙ c .before .before .before .before .before .before .before .before .before .loop .inv .2 .sound .cpe
+same-length c = c .before .before .before .before .before .before .before .before .before .walk-pass .kept .0 ∙ c .before .before .before .before .before .before .before .before .before .before .before .before .before .loop .inv .2 .sound .cpe
 
 same-length-2 : tie.Need-same-length-2 Inv-loop μ-loop
-same-length-2 c = c .before .before .before .before .before .walk-pass .kept .1 .0 ∙ c .before .before .before .before .before .before .before .before .before .loop .inv .2 .sound .room ∙ sym (c .before .before .before .before .before .before .before .before .before .before .before .before .before .before .before .before .pre .indices-room)
+same-length-2 c = c .before .before .before .before .before .before .before .before .before .walk-pass .kept .1 .0 ∙ c .before .before .before .before .before .before .before .before .before .before .before .before .before .loop .inv .2 .sound .room ∙ sym (c .before .before .before .before .before .before .before .before .before .before .before .before .before .before .before .before .before .before .before .before .pre .indices-room)
 
 same-length-3 : tie.Need-same-length-3 Inv-loop μ-loop
 same-length-3 c = search needs
 
 returns : tie.Need-returns Inv-loop μ-loop
-returns c = rests-ended (c .before .before .before .before .before .before .before .before .before .loop .inv .2) (omega (arith, c .before .before .before .before .before .before .before .before .loop-test .taken, c .before .before .before .before .before .before .before .before .before .loop .inv .1)) _ _ _ (c .before .before .before .before .before .walk-pass .ensures .0) (c .if1 .taken)
+returns c = rw (c .before .before .before .store-count .ensures) (rests-ended (c .before .before .before .before .before .before .before .before .before .before .before .before .before .loop .inv .2) (omega (arith, c .before .before .before .before .before .before .before .before .before .before .before .before .loop-test .taken, c .before .before .before .before .before .before .before .before .before .before .before .before .before .loop .inv .1)) _ _ _ (c .before .before .before .before .before .before .before .before .before .walk-pass .ensures .0) (c .if1 .taken))
 
 loop-less : tie.Need-loop-less Inv-loop μ-loop
 loop-less c = search needs
 
 loop-again : tie.Need-loop-again Inv-loop μ-loop
 loop-again c =
-    let a = c .before .before .before .before .before .before .before .before .before .before .before .before .before .before .before .before .args in
+    let a = c .before .before .before .before .before .before .before .before .before .before .before .before .before .before .before .before .before .before .before .before .args in
     let S : Shared = shared (a .t) (a .count) (a .pinned .now) (a .inks .now) (a .cpp .now) in
-    let w = c .before .before .before .before .before .before .before .before .before .loop .inv .2 in
-    let h : c .before .before .before .before .before .before .before .before .before .loop .pass < length (a .accepted-per-pass .now) = omega (arith, c .before .before .before .before .before .before .before .before .loop-test .taken, c .before .before .before .before .before .before .before .before .before .loop .inv .1) in
-    let r : Refined = refined (c .before .before .before .before .before .before .before .before .before .loop .cpe) (c .before .before .before .before .before .before .before .before .before .loop .indices) (run0 (c .before .before .before .before .before .before .before .before .before .loop .e)) in
-    let s = subst (SoundImage S (a .indices .now) (length (a .cpe .now))) (sym (c .before .before .before .before .before .walk-pass .ensures .0)) (pass-sound S (a .indices .now) (length (a .cpe .now)) r (w .sound)) in
-    (omega (arith, h), search needs, rests-more w h _ _ _ (c .before .before .before .before .before .walk-pass .ensures .0) s (c .if1 .left))
+    let w = c .before .before .before .before .before .before .before .before .before .before .before .before .before .loop .inv .2 in
+    let h : c .before .before .before .before .before .before .before .before .before .before .before .before .before .loop .pass < length (a .accepted-per-pass .now) = omega (arith, c .before .before .before .before .before .before .before .before .before .before .before .before .loop-test .taken, c .before .before .before .before .before .before .before .before .before .before .before .before .before .loop .inv .1) in
+    let r : Refined = refined (c .before .before .before .before .before .before .before .before .before .before .before .before .before .loop .cpe) (c .before .before .before .before .before .before .before .before .before .before .before .before .before .loop .indices) (run0 (c .before .before .before .before .before .before .before .before .before .before .before .before .before .loop .e)) in
+    let s = subst (SoundImage S (a .indices .now) (length (a .cpe .now))) (sym (c .before .before .before .before .before .before .before .before .before .walk-pass .ensures .0)) (pass-sound S (a .indices .now) (length (a .cpe .now)) r (w .sound)) in
+    (omega (arith, h), search needs, rw (c .before .before .before .store-count .ensures) (rests-more w h _ _ _ (c .before .before .before .before .before .before .before .before .before .walk-pass .ensures .0) s (c .if1 .left)))
 
 same-length-4 : tie.Need-same-length-4 Inv-loop μ-loop
 same-length-4 c = c .before .loop .inv .2 .sound .cpe
@@ -81,9 +75,7 @@ refine-passes-spec =
     μ-loop
     loop-holds
     walk-pass-requires
-    cast-accepted-per-pass
-    mul-accepted-per-pass
-    slice-write-accepted-per-pass
+    store-count-requires
     add-pass
     same-length
     same-length-2

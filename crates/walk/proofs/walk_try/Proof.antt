@@ -1,5 +1,7 @@
 -- `walk::walk_try` meets its contract: each arm is one of the definition's. Assumes nothing.
-use mathlib.Core.Path.{sym, _∙_}
+use mathlib.Core.Path.{_≡_, sym, _∙_}
+use mathlib.Core.Bool.{true, false}
+use Rattle.tiling.specs.Tiling.{inPhase}
 use Rattle.walk.specs.Walk.{walkTry}
 use borrow.Author.Needs.{needs}
 use Rattle.walk.proofs.walk_try.Statement.{statement}
@@ -20,14 +22,16 @@ same-length-2 c = search needs
 returns : tie.Need-returns
 unfolding walkTry
 returns c =
-    let flag = sym (c .before .before .before .before .before .before .before .before .is-in-phase .ensures) ∙ c .before .before .before .before .before .before .before .if1 .taken in
-    rw flag (c .before .before .before .before .walk-tile .ensures)
+    let a = c .before .before .before .before .before .before .before .before .before .before .before .before .before .before .args in
+    let due : inPhase (a .t) (a .phase) (a .tile) ≡ true = sym (c .before .before .before .before .before .before .before .before .is-in-phase .ensures) ∙ c .before .before .before .before .before .before .before .if1 .taken in
+    rw due (c .before .before .before .before .walk-tile .ensures)
 
 returns-2 : tie.Need-returns-2
 unfolding walkTry
 returns-2 c =
-    let flag = sym (c .before .is-in-phase .ensures) ∙ c .if1 .left in
-    rw flag
+    let a = c .before .before .before .before .before .before .before .args in
+    let other : inPhase (a .t) (a .phase) (a .tile) ≡ false = sym (c .before .is-in-phase .ensures) ∙ c .if1 .left in
+    rw other
 
 pub walk-try-spec : {M : Type 1} → statement M
 walk-try-spec =
