@@ -13,7 +13,7 @@ use lib.Ieee.Exact.{HasValue}
 use lib.Ieee.Back.{round-whole}
 use borrow.Author.Tests.{le-ltb}
 use Rattle.base.specs.F64.{_+f_, _*f_, _/f_, wholef, f1}
-use Rattle.bounds.specs.Bound.{Sized, Ranged, Least, Within, countLimit}
+use Rattle.bounds.specs.Bound.{Sized, Ranged, Least, Bounded, countLimit}
 use Rattle.bounds.proofs.Rounding.{round-ranged, round-least, ranged-sized}
 use Rattle.bounds.proofs.Within.{div-is, pos-of}
 
@@ -24,7 +24,7 @@ whole-ranged n s a c N C h = subst (λ (z : ℕ). Ranged s z (round binary64 s a
 whole-least : (n a c : ℕ) → n < countLimit → 0 < c → a ≤ n * c → c ≤ a → Least 1 1 (round binary64 false a c)
 whole-least n a c N C h l = round-least 0 n a c N (lit≤ tt) C (subst (λ (z : ℕ). a ≤ z * c) (sym (mul-one n)) h) l
 
-pub ranged-within : (s : Bool) (n : ℕ) (x : Float) → Ranged s n x → T (fits binary64 x) → Within 0 n x
+pub ranged-within : (s : Bool) (n : ℕ) (x : Float) → Ranged s n x → T (fits binary64 x) → Bounded 0 n x
 ranged-within s n x r f = record { sized = subst (λ (z : ℕ). Sized z x) (sym (mul-one n)) (ranged-sized s n x r); fits = f }
 
 pub neg-ranged : (n : ℕ) (x : Float) → Ranged false n x → Ranged true n (neg x)

@@ -11,7 +11,7 @@ use lib.Ieee.{Float, nan}
 use Rattle.base.specs.Loop.{upTo, fromTo, table}
 use Rattle.base.proofs.LoopLaws.{upTo-ind}
 use Rattle.base.proofs.TableLaws.{length-table, getD-table}
-use Rattle.bounds.specs.Bound.{Within, AllWithin}
+use Rattle.bounds.specs.Bound.{Bounded, AllBounded}
 use Rattle.bounds.proofs.Within.{more}
 
 -- P m s says that s has grown to m at most
@@ -42,25 +42,25 @@ module _ {A : Type 0} (P : ℕ → A → Type 0) (rise : (k l : ℕ) (s : A) →
 
 -- ---- floats
 
-pub rise : (b : ℕ) (k l : ℕ) (x : Float) → k ≤ l → Within b k x → Within b l x
+pub rise : (b : ℕ) (k l : ℕ) (x : Float) → k ≤ l → Bounded b k x → Bounded b l x
 rise b k l x h w = more l h w
 
-pub rise-all : (b : ℕ) (k l : ℕ) (x : List Float) → k ≤ l → AllWithin b k x → AllWithin b l x
+pub rise-all : (b : ℕ) (k l : ℕ) (x : List Float) → k ≤ l → AllBounded b k x → AllBounded b l x
 rise-all b k l x h w i q = more l h (w i q)
 
 -- a table
-pub table-within : (b k n : ℕ) (f : ℕ → Float) → ((i : ℕ) → i < n → Within b k (f i)) → AllWithin b k (table n f)
+pub table-within : (b k n : ℕ) (f : ℕ → Float) → ((i : ℕ) → i < n → Bounded b k (f i)) → AllBounded b k (table n f)
 table-within b k n f w i h =
     let l : i < n = subst (λ (z : ℕ). i < z) (length-table n f) h in
     rw (getD-table n f i nan l) (w i l)
 
 -- a list with one value replaced, if it has the place
-pub set-within : (b k : ℕ) (l : List Float) (j : ℕ) (v : Float) → (j < length l → Within b k v) → AllWithin b k l → AllWithin b k (set l j v)
+pub set-within : (b k : ℕ) (l : List Float) (j : ℕ) (v : Float) → (j < length l → Bounded b k v) → AllBounded b k l → AllBounded b k (set l j v)
 set-within b k l j v x w i h = go (ℕ-discrete i j)
   where
     room : i < length l
     room = subst (λ (n : ℕ). i < n) (length-set l j v) h
 
-    go : Dec (i ≡ j) → Within b k (getD (set l j v) i nan)
+    go : Dec (i ≡ j) → Bounded b k (getD (set l j v) i nan)
     go (yes e) = rw (← e, getD-set-same l i v nan room) (x (subst (λ (n : ℕ). n < length l) e room))
     go (no e) = rw (getD-set-other l j i v nan e) (w i room)

@@ -13,7 +13,7 @@ use lib.Ieee.Scale.{finite}
 use borrow.Author.Tests.{ne-eqb}
 use Rattle.base.specs.F64.{f0, _+f_, _-f_, _*f_, _/f_}
 use Rattle.bounds.specs.Number.{Number, Numbers}
-use Rattle.bounds.specs.Bound.{Sized, Within, AllWithin, Apart, countLimit, exponentLimit}
+use Rattle.bounds.specs.Bound.{Sized, Bounded, AllBounded, Apart, countLimit, exponentLimit}
 use Rattle.bounds.proofs.Rounding.{round-sized}
 
 -- ---- larger bounds
@@ -23,13 +23,13 @@ sized-more n p nan h s = s
 sized-more n p (inf t) h s = s
 sized-more n p (fin t m e) h s = le-trans s (mul-le-mul-right (down e) h)
 
-pub wider : {b k : ℕ} {x : Float} (c l : ℕ) → k * 2 ^ b ≤ l * 2 ^ c → Within b k x → Within c l x
+pub wider : {b k : ℕ} {x : Float} (c l : ℕ) → k * 2 ^ b ≤ l * 2 ^ c → Bounded b k x → Bounded c l x
 wider {b} {k} {x} c l h w = record { sized = sized-more (k * 2 ^ b) (l * 2 ^ c) x h (w .sized); fits = w .fits }
 
-pub more : {b k : ℕ} {x : Float} (l : ℕ) → k ≤ l → Within b k x → Within b l x
+pub more : {b k : ℕ} {x : Float} (l : ℕ) → k ≤ l → Bounded b k x → Bounded b l x
 more {b} {k} {x} l h w = wider b l (mul-le-mul-right (2 ^ b) h) w
 
-pub zero-within : (b : ℕ) → Within b 0 f0
+pub zero-within : (b : ℕ) → Bounded b 0 f0
 unfolding ofBits fits
 zero-within b = record { sized = omega arith; fits = tt }
 
@@ -79,18 +79,18 @@ neg-sized n (fin t m e) s = s
 both-le : (b k l : ℕ) → k * 2 ^ b + l * 2 ^ b ≤ (k + l) * 2 ^ b
 both-le b k l = le-of-eq (sym (add-mul k l (2 ^ b)))
 
-pub add-within : {b k l : ℕ} {x y : Float} → Within b k x → Within b l y → k + l < countLimit → b ≤ exponentLimit → Within b (k + l) (x +f y)
+pub add-within : {b k l : ℕ} {x y : Float} → Bounded b k x → Bounded b l y → k + l < countLimit → b ≤ exponentLimit → Bounded b (k + l) (x +f y)
 add-within {b} {k} {l} {x} {y} v w K B =
     record { sized = add-sized b (k + l) (k * 2 ^ b) (l * 2 ^ b) x y (K, B) (both-le b k l) (v .sized) (w .sized); fits = add-fits binary64 x y }
 
-pub sub-within : {b k l : ℕ} {x y : Float} → Within b k x → Within b l y → k + l < countLimit → b ≤ exponentLimit → Within b (k + l) (x -f y)
+pub sub-within : {b k l : ℕ} {x y : Float} → Bounded b k x → Bounded b l y → k + l < countLimit → b ≤ exponentLimit → Bounded b (k + l) (x -f y)
 unfolding sub
 sub-within {b} {k} {l} {x} {y} v w K B = record {
   sized = add-sized b (k + l) (k * 2 ^ b) (l * 2 ^ b) x (neg y) (K, B) (both-le b k l) (v .sized) (neg-sized (l * 2 ^ b) y (w .sized));
   fits = add-fits binary64 x (neg y);
 }
 
-pub neg-within : {b k : ℕ} {x : Float} → Within b k x → Within b k (neg x)
+pub neg-within : {b k : ℕ} {x : Float} → Bounded b k x → Bounded b k (neg x)
 neg-within {b} {k} {x} w = record { sized = neg-sized (k * 2 ^ b) x (w .sized); fits = neg-fits binary64 x (w .fits) }
 
 -- ---- products and quotients
@@ -108,7 +108,7 @@ mul-sized b k n p (fin u m e) (fin v l d) K h s t =
 powers : (b c k l : ℕ) → k * 2 ^ b * (l * 2 ^ c) ≤ k * l * 2 ^ (b + c)
 powers b c k l = le-of-eq (mul-mul-mul-comm k (2 ^ b) l (2 ^ c) ∙ ap (λ (z : ℕ). k * l * z) (sym (pow-add 2 b c)))
 
-pub mul-within : {b c k l : ℕ} {x y : Float} → Within b k x → Within c l y → k * l < countLimit → b + c ≤ exponentLimit → Within (b + c) (k * l) (x *f y)
+pub mul-within : {b c k l : ℕ} {x y : Float} → Bounded b k x → Bounded c l y → k * l < countLimit → b + c ≤ exponentLimit → Bounded (b + c) (k * l) (x *f y)
 mul-within {b} {c} {k} {l} {x} {y} v w K B =
     record { sized = mul-sized (b + c) (k * l) (k * 2 ^ b) (l * 2 ^ c) x y (K, B) (powers b c k l) (v .sized) (w .sized); fits = mul-fits binary64 x y }
 
@@ -142,7 +142,7 @@ div-sized b k j n (fin u m e) (fin v l d) K h s t =
         le-trans (mul-le-mul a c)
         (le-trans (le-of-eq (simp (mul-assoc, mul-comm, mul-left-comm))) (mul-le-mul-right (y * de) h))
 
-pub div-within : {b k : ℕ} {x : Float} (j : ℕ) (y : Float) → Within b k x → Apart j y → k < countLimit → b + j ≤ exponentLimit → Within (b + j) k (x /f y)
+pub div-within : {b k : ℕ} {x : Float} (j : ℕ) (y : Float) → Bounded b k x → Apart j y → k < countLimit → b + j ≤ exponentLimit → Bounded (b + j) k (x /f y)
 div-within {b} {k} {x} j y v w K B = record {
   sized = div-sized (b + j) k j (k * 2 ^ b) x y (K, B) (le-of-eq (mul-assoc k (2 ^ b) (2 ^ j) ∙ ap (λ (z : ℕ). k * z) (sym (pow-add 2 b j)))) (v .sized) w;
   fits = div-fits binary64 x y;
@@ -155,8 +155,8 @@ sized-finite n nan s = s
 sized-finite n (inf t) s = s
 sized-finite n (fin t m e) s = tt
 
-pub number : {b k : ℕ} {x : Float} → Within b k x → Number x
+pub number : {b k : ℕ} {x : Float} → Bounded b k x → Number x
 number {b} {k} {x} w = record { finite = sized-finite (k * 2 ^ b) x (w .sized); fits = w .fits }
 
-pub numbers : {b k : ℕ} (l : _) → AllWithin b k l → Numbers l
+pub numbers : {b k : ℕ} (l : _) → AllBounded b k l → Numbers l
 numbers l w i h = number (w i h)

@@ -15,13 +15,13 @@ Sized n (inf s) = ⊥
 Sized n (fin s m e) = m * up e ≤ n * down e
 
 -- an f64 no further from 0 than k·2^b
-pub record Within (b k : ℕ) (x : Float) : Type 0 where
+pub record Bounded (b k : ℕ) (x : Float) : Type 0 where
   pub sized : Sized (k * 2 ^ b) x
   pub fits : T (fits binary64 x)
 
 -- every value of a list; no place below the length reads the `nan`
-abbrev pub AllWithin : ℕ → ℕ → List Float → Type 0
-AllWithin b k l = (i : ℕ) → i < length l → Within b k (getD l i nan)
+abbrev pub AllBounded : ℕ → ℕ → List Float → Type 0
+AllBounded b k l = (i : ℕ) → i < length l → Bounded b k (getD l i nan)
 
 -- finite, and no nearer to 0 than 1 / 2^j
 abbrev pub Apart : ℕ → Float → Type 0

@@ -15,7 +15,7 @@ use Rattle.sweep.specs.Sweep.{grow, addAt, sweepPixel, sweepRow, sweepOf, addKe
 use Rattle.search.specs.Search.{centreOf, besideOf, centres, gaps, toggleCost, swapCost, tryToggle, toggles, partnerOf, trySwap, swaps, evaluateOf}
 use Rattle.moves.specs.Moves.{movedIndices, movedCpe}
 use Rattle.tile.specs.Tile.{applied, visitOf, refineRow, refineTile}
-use Rattle.cases.specs.Cases.{Hold, handCpp, handCpe, placed, refined, hand, level, limit, cases}
+use Rattle.cases.specs.Cases.{Hold, handCpp, handCpe, placedTile, refinedCase, hand, level, limit, cases}
 
 -- the bits of the last line's limit
 limit-decimal : limit ≡ neg (decimal 1 1000000000)
@@ -23,5 +23,5 @@ unfolding ofBits round neg
 limit-decimal = refl
 
 pub all-hold : Hold cases
-unfolding Hold cases handCpp handCpe placed refined hand level applied visitOf refineRow refineTile movedIndices movedCpe centreOf besideOf centres gaps toggleCost swapCost tryToggle toggles partnerOf trySwap swaps evaluateOf grow addAt sweepPixel sweepRow sweepOf addKernels kernelAt pinnedAt image margin side columns tileX tileY inPhase tile region blurRadius ceil yycxcz srgbToLinear linear width place cell put upTo fromTo table ofBits ofInt round neg add sub mul div lt
+unfolding Hold cases handCpp handCpe placedTile refinedCase hand level applied visitOf refineRow refineTile movedIndices movedCpe centreOf besideOf centres gaps toggleCost swapCost tryToggle toggles partnerOf trySwap swaps evaluateOf grow addAt sweepPixel sweepRow sweepOf addKernels kernelAt pinnedAt image margin side columns tileX tileY inPhase tile region blurRadius ceil yycxcz srgbToLinear linear width place cell put upTo fromTo table ofBits ofInt round neg add sub mul div lt
 all-hold = (refl, (refl, (refl, (refl, (refl, (refl, (refl, (refl, (refl, (refl, (refl, (refl, tt))))))))))))

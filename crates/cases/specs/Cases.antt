@@ -48,8 +48,8 @@ abbrev tiling : ℕ → ℕ → ℕ → ℕ → Tiling
 tiling width height lum chroma = record { width = width; height = height; lum = lum; chroma = chroma }
 
 -- the margin, in which of the phases 0 to 3 tile t is, and its region
-unfoldable pub placed : Tiling → ℕ → ℕ × List Bool × Rect
-placed T t = (margin T, inPhase T 0 t ∷ inPhase T 1 t ∷ inPhase T 2 t ∷ inPhase T 3 t ∷ [], region T t)
+unfoldable pub placedTile : Tiling → ℕ → ℕ × List Bool × Rect
+placedTile T t = (margin T, inPhase T 0 t ∷ inPhase T 1 t ∷ inPhase T 2 t ∷ inPhase T 3 t ∷ [], region T t)
 
 -- n pixels side by side, the luminance kernel of radius 2, the chrominance kernel of radius 4
 abbrev strip : ℕ → Tiling
@@ -73,8 +73,8 @@ handCpe inks pinned indices targets = table (3 * length indices) (λ i.
     valueOf inks indices i -f valueOf inks aims i)
 
 -- the best move of an image's first pixel, and what refining its first tile leaves
-unfoldable pub refined : Shared → List Float → List ℕ → Best × State
-refined S cpe indices = (
+unfoldable pub refinedCase : Shared → List Float → List ℕ → Best × State
+refinedCase S cpe indices = (
   evaluateOf S (image (S .tiling)) cpe indices 0 0 noMove,
   refineTile S (image (S .tiling)) (tile (S .tiling) 0) (state cpe indices noProgress),
 )
@@ -83,7 +83,7 @@ refined S cpe indices = (
 unfoldable pub hand : List Float → List ℕ → List ℕ → List ℕ → Best × State
 hand inks pinned indices targets =
     let T = strip (length indices) in
-    refined (shared T (length inks / 3) pinned inks (handCpp T f1)) (handCpe inks pinned indices targets) indices
+    refinedCase (shared T (length inks / 3) pinned inks (handCpp T f1)) (handCpe inks pinned indices targets) indices
 
 -- 'ink values (0,0,0), (1,0,0)', and 'a third ink equal to ink 1'
 abbrev twoInks : List Float
@@ -96,7 +96,7 @@ threeInks = f0 ∷ f0 ∷ f0 ∷ f1 ∷ f0 ∷ f0 ∷ f1 ∷ f0 ∷ f0 ∷ []
 unfoldable pub level : List Float → Float × (Best × State)
 level cpe =
     let S = shared (strip 1) 2 [] twoInks (handCpp (strip 1) f0) in
-    (toggleCost (centres (S .cpp) (S .tiling)) (lessOf (inkAt S 1) (inkAt S 0)) (cpeAt (image (S .tiling)) cpe 0 0), refined S cpe (0 ∷ []))
+    (toggleCost (centres (S .cpp) (S .tiling)) (lessOf (inkAt S 1) (inkAt S 0)) (cpeAt (image (S .tiling)) cpe 0 0), refinedCase S cpe (0 ∷ []))
 
 -- -1e-9, and half of it
 abbrev pub limit : Float
@@ -130,7 +130,7 @@ cases =
     -- larger R 12; 30; 32: side 64; 64; 67
     ∷ (side (tiling 1 1 6 12) ∷ side (tiling 1 1 14 30) ∷ side (tiling 1 1 32 14) ∷ [] ⇒ 64 ∷ 64 ∷ 67 ∷ [])
     -- w 65, h 64, margin 13: tile 1 in phase 1, its region x 51–64
-    ∷ (placed (tiling 65 64 6 12) 1 ⇒ (13, false ∷ true ∷ false ∷ false ∷ [], record { x0 = 51; y0 = 0; x1 = 65; y1 = 64 }))
+    ∷ (placedTile (tiling 65 64 6 12) 1 ⇒ (13, false ∷ true ∷ false ∷ false ∷ [], record { x0 = 51; y0 = 0; x1 = 65; y1 = 64 }))
     -- dot (0,0), code 0: no neighbour
     ∷ (neighbourOf 0 0 0 2 2 ⇒ Outside)
     -- code 4, w 1; 2: none; (1,0)

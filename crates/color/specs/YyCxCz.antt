@@ -8,37 +8,37 @@ use Rattle.color.specs.Decimal.{decimal}
 use Rattle.color.specs.Lut.{linear}
 
 -- a row of SRGB_TO_XYZ, made of its decimals in units of 0.0000001
-pub record Row : Type 0 where
+pub record MatrixRow : Type 0 where
   pub red : Float
   pub green : Float
   pub blue : Float
 
-abbrev pub row : ℕ → ℕ → ℕ → Row
+abbrev pub row : ℕ → ℕ → ℕ → MatrixRow
 row r g b = record { red = decimal r 10000000; green = decimal g 10000000; blue = decimal b 10000000 }
 
-abbrev pub rowX : Row
+abbrev pub rowX : MatrixRow
 rowX = row 4124564 3575761 1804375
 
-abbrev pub rowY : Row
+abbrev pub rowY : MatrixRow
 rowY = row 2126729 7151522 721750
 
-abbrev pub rowZ : Row
+abbrev pub rowZ : MatrixRow
 rowZ = row 193339 1191920 9503041
 
 -- a row times a linear colour
-abbrev pub rowTimes : Row → Float → Float → Float → Float
+abbrev pub rowTimes : MatrixRow → Float → Float → Float → Float
 rowTimes m r g b = m .red *f r +f m .green *f g +f m .blue *f b
 
 -- D65, the white point, has the rows' sums
-abbrev pub rowSum : Row → Float
-rowSum m = m .red +f m .green +f m .blue
+abbrev pub matrixRowSum : MatrixRow → Float
+matrixRowSum m = m .red +f m .green +f m .blue
 
 -- XYZ to YyCxCz
 abbrev pub fromXyz : Float → Float → Float → YyCxCz
 fromXyz x y z =
-    let xn = rowSum rowX in
-    let yn = rowSum rowY in
-    let zn = rowSum rowZ in
+    let xn = matrixRowSum rowX in
+    let yn = matrixRowSum rowY in
+    let zn = matrixRowSum rowZ in
     record { yy = wholef 116 *f y /f yn; cx = wholef 500 *f (x /f xn -f y /f yn); cz = wholef 200 *f (y /f yn -f z /f zn) }
 
 -- a linear colour to YyCxCz

@@ -15,7 +15,7 @@ use Rattle.tiling.specs.Tiling.{Limits}
 use Rattle.cpp.specs.declared.Kernel2D.{Kernel2D}
 use Rattle.cpp.specs.Kernel.{lumKernel, chromaKernel}
 use Rattle.pins.specs.Pins.{pinnedAt}
-use Rattle.bounds.specs.Bound.{Within, AllWithin, countLimit}
+use Rattle.bounds.specs.Bound.{Bounded, AllBounded, countLimit}
 use Rattle.bounds.proofs.Within.{zero-within, wider, more, add-within, sub-within, mul-within}
 use Rattle.bounds.proofs.Sums.{rise, upTo-grown, fromTo-grown, table-within}
 use Rattle.inkbounds.specs.Inks.{ColourWithin, inkExponent}
@@ -26,7 +26,7 @@ use Rattle.errorbounds.specs.Errors.{errorExponent, cpeExponent, fieldTe
 
 -- ---- three values of a list, and differences
 
-pub values-within : (b k : ℕ) (l : List Float) (j : ℕ) → AllWithin b k l → j + 2 < length l → ColourWithin b k (valuesAt l j)
+pub values-within : (b k : ℕ) (l : List Float) (j : ℕ) → AllBounded b k l → j + 2 < length l → ColourWithin b k (valuesAt l j)
 values-within b k l j w h = record { yy = w j (omega arith); cx = w (j + 1) (omega arith); cz = w (j + 2) h }
 
 -- of two colours
@@ -39,7 +39,7 @@ less-within a b = record {
 
 -- ---- the error of a pixel
 
-module _ (w h : ℕ) (G : Scene) (f : SceneFits w h G) (inks : AllWithin inkExponent 1 (G .inks)) where
+module _ (w h : ℕ) (G : Scene) (f : SceneFits w h G) (inks : AllBounded inkExponent 1 (G .inks)) where
   halftone-within : (x y : ℕ) → x < w → y < h → ColourWithin inkExponent 1 (halftoneAt w G x y)
   unfolding halftoneAt
   halftone-within x y p q = values-within inkExponent 1 (G .inks) (3 * getD (G .indices) (y * w + x) 0) inks (pixel-fits w h G x y f p q .ink)
@@ -72,10 +72,10 @@ offset x r n u p q = (omega arith, omega arith)
 small : (m n : ℕ) → m ≤ n → n ≤ 4225 → m < countLimit
 small m n h k = omega arith
 
-module _ (w h : ℕ) (G : Scene) (f : SceneFits w h G) (inks : AllWithin inkExponent 1 (G .inks)) (cpp : List Float) (k : Kernel2D) (few : k .radius ≤ 32) (kernel : KernelWithin cpp k)
+module _ (w h : ℕ) (G : Scene) (f : SceneFits w h G) (inks : AllBounded inkExponent 1 (G .inks)) (cpp : List Float) (k : Kernel2D) (few : k .radius ≤ 32) (kernel : KernelWithin cpp k)
     (x y c : ℕ) where
   term-within : (v u m : ℕ) → y - k .radius ≤ v → v < min h (y + k .radius + 1) → x - k .radius ≤ u → u < min w (x + k .radius + 1) → m + 1 < countLimit →
-      (s : Float) → Within cpeExponent m s → Within cpeExponent (m + 1) (correlateTerm w G cpp k x y c v u s)
+      (s : Float) → Bounded cpeExponent m s → Bounded cpeExponent (m + 1) (correlateTerm w G cpp k x y c v u s)
   unfolding correlateTerm
   term-within v u m a b p q l s t =
       let X = offset x (k .radius) w u p q in
@@ -83,25 +83,25 @@ module _ (w h : ℕ) (G : Scene) (f : SceneFits w h G) (inks : AllWithin inkExpo
       add-within t (mul-within (kernel _ _ (X .1) (Y .1)) (channel-within c (error-within w h G f inks u v (X .0) (Y .0))) (lit< tt) (lit≤ tt)) l (lit≤ tt)
 
   row-within : (v m : ℕ) → y - k .radius ≤ v → v < min h (y + k .radius + 1) → m + 65 * 1 ≤ 4225 →
-      (s : Float) → Within cpeExponent m s → Within cpeExponent (m + 65 * 1) (correlateRow w G cpp k x y c v s)
+      (s : Float) → Bounded cpeExponent m s → Bounded cpeExponent (m + 65 * 1) (correlateRow w G cpp k x y c v s)
   unfolding correlateRow
   row-within v m a b l s t =
-      fromTo-grown (Within cpeExponent) (rise cpeExponent) 1 65 m (x - k .radius) (min w (x + k .radius + 1)) (correlateTerm w G cpp k x y c v) (reach x (k .radius) w 32 few)
+      fromTo-grown (Bounded cpeExponent) (rise cpeExponent) 1 65 m (x - k .radius) (min w (x + k .radius + 1)) (correlateTerm w G cpp k x y c v) (reach x (k .radius) w 32 few)
       (λ u n p q z s t. term-within v u n a b p q (small (n + 1) (m + 65 * 1) z l) s t) s t
 
-  correlate-within : Within cpeExponent fieldTerms (correlateAt w G cpp k x y c h)
+  correlate-within : Bounded cpeExponent fieldTerms (correlateAt w G cpp k x y c h)
   unfolding correlateAt
   correlate-within =
-      fromTo-grown (Within cpeExponent) (rise cpeExponent) (65 * 1) 65 0 (y - k .radius) (min h (y + k .radius + 1)) (correlateRow w G cpp k x y c) (reach y (k .radius) h 32 few)
+      fromTo-grown (Bounded cpeExponent) (rise cpeExponent) (65 * 1) 65 0 (y - k .radius) (min h (y + k .radius + 1)) (correlateRow w G cpp k x y c) (reach y (k .radius) h 32 few)
       (λ v n p q z s t. row-within v n p q z s t) f0 (zero-within cpeExponent)
 
-module _ (T : Tiling) (G : Scene) (cpp : List Float) (l : Limits T) (f : SceneFits (T .width) (T .height) G) (inks : AllWithin inkExponent 1 (G .inks)) (store : StoreWithin T cpp) where
-  field-at-within : (x y c : ℕ) → Within cpeExponent fieldTerms (fieldAt T G cpp x y c)
+module _ (T : Tiling) (G : Scene) (cpp : List Float) (l : Limits T) (f : SceneFits (T .width) (T .height) G) (inks : AllBounded inkExponent 1 (G .inks)) (store : StoreWithin T cpp) where
+  field-at-within : (x y c : ℕ) → Bounded cpeExponent fieldTerms (fieldAt T G cpp x y c)
   unfolding fieldAt channelKernel
   field-at-within x y zero = correlate-within (T .width) (T .height) G f inks cpp (lumKernel T) (l .lum-limit) (store .lum) x y 0
   field-at-within x y (suc c) = correlate-within (T .width) (T .height) G f inks cpp (chromaKernel T) (l .chroma-limit) (store .chroma) x y (suc c)
 
-  pub field-within : AllWithin cpeExponent fieldTerms (fieldOf T G cpp)
+  pub field-within : AllBounded cpeExponent fieldTerms (fieldOf T G cpp)
   unfolding fieldOf fieldValue
   field-within = table-within cpeExponent fieldTerms (3 * (T .height * T .width)) (fieldValue T G cpp) (λ i h. field-at-within (i / 3 % T .width) (i / 3 / T .width) (i % 3))
 
@@ -119,19 +119,19 @@ module _ (T : Tiling) (G : Scene) (cpp : List Float) (l : Limits T) (f : SceneFi
   place-of : (i : ℕ) → i < n → 3 * i + 2 < length cpe
   place-of i h = omega (arith, length-field T G cpp)
 
-  error-term : (c i m : ℕ) → i < n → m + 4225 ≤ 0 + n * 4225 → (s : Float) → Within 39 m s → Within 39 (m + 4225) (errorTerm (T .width) G cpe c i s)
+  error-term : (c i m : ℕ) → i < n → m + 4225 ≤ 0 + n * 4225 → (s : Float) → Bounded 39 m s → Bounded 39 (m + 4225) (errorTerm (T .width) G cpe c i s)
   unfolding errorTerm
   error-term c i m h z s t =
       let e = error-within (T .width) (T .height) G f inks (i % T .width) (i / T .width) (column-lt (T .width) i (l .wide)) (row-lt (T .width) (T .height) i (l .wide) h) in
       let v = values-within cpeExponent fieldTerms cpe (3 * i) field-within (place-of i h) in
       add-within t (mul-within (channel-within c e) (channel-within c v) (lit< tt) (lit≤ tt)) (omega (arith, few-pixels)) (lit≤ tt)
 
-  channel-error-within : (c : ℕ) → Within 39 70883737600 (channelError (T .width) G cpe c n)
+  channel-error-within : (c : ℕ) → Bounded 39 70883737600 (channelError (T .width) G cpe c n)
   unfolding channelError
   channel-error-within c =
-      more 70883737600 (omega (arith, few-pixels)) (upTo-grown (Within 39) 4225 (errorTerm (T .width) G cpe c) n 0 (error-term c) f0 (zero-within 39))
+      more 70883737600 (omega (arith, few-pixels)) (upTo-grown (Bounded 39) 4225 (errorTerm (T .width) G cpe c) n 0 (error-term c) f0 (zero-within 39))
 
-  pub initial-within : Within costExponent 1 (initialError T G cpe)
+  pub initial-within : Bounded costExponent 1 (initialError T G cpe)
   unfolding initialError
   initial-within =
       let a = channel-error-within 0 in

@@ -5,7 +5,7 @@ use lib.Ieee.{Float}
 use Rattle.tiling.specs.declared.Tiling.{Tiling}
 use Rattle.cpp.specs.declared.Kernel2D.{Kernel2D}
 use Rattle.cpp.specs.Kernel.{size, kernelAt, lumKernel, chromaKernel}
-use Rattle.bounds.specs.Bound.{Within}
+use Rattle.bounds.specs.Bound.{Bounded}
 use Rattle.kernelbounds.specs.Kernels.{kernelExponent}
 
 abbrev pub errorExponent : ℕ
@@ -25,7 +25,7 @@ costExponent = 97
 
 -- every value of a kernel in the store, and of both kernels
 abbrev pub KernelWithin : List Float → Kernel2D → Type 0
-KernelWithin cpp k = (i j : ℕ) → i < size k → j < size k → Within kernelExponent 1 (kernelAt cpp k i j)
+KernelWithin cpp k = (i j : ℕ) → i < size k → j < size k → Bounded kernelExponent 1 (kernelAt cpp k i j)
 
 pub record StoreWithin (T : Tiling) (cpp : List Float) : Type 0 where
   pub lum : KernelWithin cpp (lumKernel T)

@@ -20,7 +20,7 @@ use Rattle.tiling.proofs.TilingLaws.{region-within}
 use Rattle.search.specs.Shared.{Named}
 use Rattle.tile.specs.Tile.{State, state, noProgress}
 use Rattle.tile.proofs.Keeps.{Sound}
-use Rattle.bounds.specs.Bound.{Within, AllWithin}
+use Rattle.bounds.specs.Bound.{Bounded, AllBounded}
 use Rattle.bounds.proofs.Within.{zero-within, number, numbers, more}
 use Rattle.bounds.proofs.Sums.{set-within, table-within}
 use Rattle.errorbounds.specs.Errors.{cpeExponent, costExponent}
@@ -57,14 +57,14 @@ behind = midTileLimit
 
 -- ---- a part of an image, and zeros
 
-crop-within : (b k : ℕ) (P W : Rect) (l : List Float) → length l ≡ 3 * area P → Rattle.base.specs.Grid.Within P W → AllWithin b k l → AllWithin b k (crop nan 3 P W l)
+crop-within : (b k : ℕ) (P W : Rect) (l : List Float) → length l ≡ 3 * area P → Rattle.base.specs.Grid.Within P W → AllBounded b k l → AllBounded b k (crop nan 3 P W l)
 unfolding crop cell
 crop-within b k P W l e h w =
     table-within b k (3 * area W) _ (λ i q.
     w (place 3 P (columnAt 3 W i) (rowAt 3 W i) (valueAt 3 i)) (subst (λ (n : ℕ). place 3 P (columnAt 3 W i) (rowAt 3 W i) (valueAt 3 i) < n) (sym e)
     (place-lt 3 P (columnAt 3 W i) (rowAt 3 W i) (valueAt 3 i) (widen h (at-inside 3 W i q)) (part-lt 3 W i q))))
 
-zeros-within : (b k n : ℕ) → AllWithin b k (replicate n f0)
+zeros-within : (b k n : ℕ) → AllBounded b k (replicate n f0)
 zeros-within b k n i h = rw (getD-replicate n i f0 nan (subst (λ (m : ℕ). i < m) (length-replicate n f0) h)) (more k (omega arith) (zero-within b))
 
 module _ (words : List ℕ) (O : Opening) (ok : openRun words O .status ≡ accepted) where
@@ -90,8 +90,8 @@ module _ (words : List ℕ) (O : Opening) (ok : openRun words O .status ≡ acce
 
   -- what is carried from call to call, beside demand 3's invariant
   pub record HeldBy (last : ℕ → Pixels) (kept : List Float) : Type 0 where
-    pub copies : (t : ℕ) → AllWithin cpeExponent (cellTerms behind) (last t .cpe)
-    pub deltas : AllWithin costExponent tileVisits kept
+    pub copies : (t : ℕ) → AllBounded cpeExponent (cellTerms behind) (last t .cpe)
+    pub deltas : AllBounded costExponent tileVisits kept
 
   abbrev pub Held : Job → Type 0
   Held J = HeldBy (J .last) (J .deltas)
@@ -107,12 +107,12 @@ module _ (words : List ℕ) (O : Opening) (ok : openRun words O .status ≡ acce
     abbrev back : ℕ → Bool
     back = isHome (tilingOf I) (phases O m .phase) (J .states)
 
-    some : AllWithin cpeExponent (cellTerms behind) (walkSome (sharedHere O) back (tiles (tilingOf I)) (phases O m .now) .cpe)
+    some : AllBounded cpeExponent (cellTerms behind) (walkSome (sharedHere O) back (tiles (tilingOf I)) (phases O m .now) .cpe)
     unfolding walkSome
     some = some-walked (sharedHere O) g (I .indices) back (tiles (tilingOf I)) (omega arith) walkTileLimit (lit≤ tt) (phases O m .now) walked .cpe
 
-    image-within : AllWithin cpeExponent (cellTerms behind) (J .image .cpe)
-    image-within = subst (λ (p : Pixels). AllWithin cpeExponent (cellTerms behind) (p .cpe)) (sym (image-is words O ok m J M)) some
+    image-within : AllBounded cpeExponent (cellTerms behind) (J .image .cpe)
+    image-within = subst (λ (p : Pixels). AllBounded cpeExponent (cellTerms behind) (p .cpe)) (sym (image-is words O ok m J M)) some
 
     -- ---- an accepted work call
 
@@ -148,7 +148,7 @@ module _ (words : List ℕ) (O : Opening) (ok : openRun words O .status ≡ acce
       made-numbers : TileNumbers (sharedHere O) W (tile (tilingOf I) t) (state (J .last t .cpe) (J .last t .indices) noProgress)
       made-numbers = tile-numbers (sharedHere O) g W behind (lit≤ tt) t (region-covers (tilingOf I) t (f .tile-has)) (J .last t .cpe) (J .last t .indices) (J .last t .indices) sound (k .copies t)
 
-      made-delta : Within costExponent tileVisits (refinedCopy (sharedHere O) t (J .last t) .progress .delta)
+      made-delta : Bounded costExponent tileVisits (refinedCopy (sharedHere O) t (J .last t) .progress .delta)
       unfolding refinedCopy
       made-delta = delta-within (sharedHere O) g W behind (lit≤ tt) t (region-covers (tilingOf I) t (f .tile-has)) (J .last t .cpe) (J .last t .indices) (J .last t .indices) sound (k .copies t)
 
@@ -169,8 +169,8 @@ module _ (words : List ℕ) (O : Opening) (ok : openRun words O .status ≡ acce
     job-numbers k = record {
       cpe = numbers (J .image .cpe) image-within;
       deltas = numbers (J .deltas) (k .deltas);
-      error = number (subst (Within costExponent _) (sym (H .recorded .error)) (walked .error));
-      initial = number (subst (Within costExponent _) (sym (ap (λ (p : Plan). p .initial) (H .recorded .planned))) (initial-is I (O .cpp) input-ok room));
+      error = number (subst (Bounded costExponent _) (sym (H .recorded .error)) (walked .error));
+      initial = number (subst (Bounded costExponent _) (sym (ap (λ (p : Plan). p .initial) (H .recorded .planned))) (initial-is I (O .cpp) input-ok room));
       copies = λ t. numbers (J .last t .cpe) (k .copies t);
       works = works k;
     }
@@ -188,11 +188,11 @@ module _ (words : List ℕ) (O : Opening) (ok : openRun words O .status ≡ acce
         tiling-is : rec J .plan .tiling ≡ tilingOf I
         tiling-is = ap (λ (p : Plan). p .tiling) (H .recorded .planned)
 
-        copied : AllWithin cpeExponent (cellTerms behind) (copyOf (rec J .plan .tiling) t (J .image) .cpe)
+        copied : AllBounded cpeExponent (cellTerms behind) (copyOf (rec J .plan .tiling) t (J .image) .cpe)
         copied = rw tiling-is (unfold copyOf in
             crop-within cpeExponent (cellTerms behind) (image (tilingOf I)) (region (tilingOf I) t) (J .image .cpe) (image-whole _ _ _ _ (stage J) (phases O m) H .cpe) (region-within (tilingOf I) t) image-within)
 
-        go : (u : ℕ) (b : Bool) → AllWithin cpeExponent (cellTerms behind) (cond b (copyOf (rec J .plan .tiling) t (J .image)) (J .last u) .cpe)
+        go : (u : ℕ) (b : Bool) → AllBounded cpeExponent (cellTerms behind) (cond b (copyOf (rec J .plan .tiling) t (J .image)) (J .last u) .cpe)
         go u true = copied
         go u false = k .copies u
 
@@ -203,7 +203,7 @@ module _ (words : List ℕ) (O : Opening) (ok : openRun words O .status ≡ acce
         from-stage (after J (putting t made)) _ (put-stage J (M .stands) t made e (record { initial = d .initial; error = d .error })) (record {
           copies = k .copies;
           deltas = set-within costExponent tileVisits (J .deltas) t (made .progress .delta)
-              (λ h. subst (λ (s : State). Within costExponent tileVisits (s .progress .delta)) (made-is words O ok m J M t made b) (made-delta k t (facts t (b .run) (b .known) (b .ok)))) (k .deltas);
+              (λ h. subst (λ (s : State). Bounded costExponent tileVisits (s .progress .delta)) (made-is words O ok m J M t made b) (made-delta k t (facts t (b .run) (b .known) (b .ok)))) (k .deltas);
         })
 
     -- a close changes neither

@@ -10,7 +10,7 @@ use Rattle.color.specs.declared.YyCxCz.{YyCxCz}
 use Rattle.cpp.specs.declared.Kernel2D.{Kernel2D}
 use Rattle.cpp.specs.Kernel.{size, kernelAt, lumKernel, chromaKernel}
 use Rattle.error.specs.Error.{errorAt}
-use Rattle.bounds.specs.Bound.{Within, AllWithin}
+use Rattle.bounds.specs.Bound.{Bounded, AllBounded}
 use Rattle.bounds.proofs.Within.{number, numbers}
 use Rattle.inkbounds.specs.Inks.{ColourWithin, inkExponent}
 use Rattle.inkbounds.proofs.Inks.{inks-within}
@@ -34,7 +34,7 @@ pub colour-number : {b k : ℕ} {c : YyCxCz} → ColourWithin b k c → ColourNu
 colour-number w = record { yy = number (w .yy); cx = number (w .cx); cz = number (w .cz) }
 
 module _ (I : Input) (cpp : List Float) (ok : judge (inputTests I) ≡ accepted) (room : length cpp ≡ 8450) where
-  pub inks-are : AllWithin inkExponent 1 (inksOf I)
+  pub inks-are : AllBounded inkExponent 1 (inksOf I)
   unfolding inksOf
   inks-are = inks-within (I .palette)
 
@@ -45,15 +45,15 @@ module _ (I : Input) (cpp : List Float) (ok : judge (inputTests I) ≡ accepted)
     chroma = λ i j a b. chroma-within (I .params) (eye-ok I ok) cpp room _ (index-lt i j (size (chromaKernel (tilingOf I))) (size (chromaKernel (tilingOf I))) a b);
   }
 
-  scene-inks : AllWithin inkExponent 1 (sceneOf I .inks)
+  scene-inks : AllBounded inkExponent 1 (sceneOf I .inks)
   unfolding sceneOf
   scene-inks = inks-are
 
-  pub field-is : AllWithin cpeExponent fieldTerms (cpeOf I cpp)
+  pub field-is : AllBounded cpeExponent fieldTerms (cpeOf I cpp)
   unfolding cpeOf
   field-is = field-within (tilingOf I) (sceneOf I) (cppOf I cpp) (limits I ok) (scene-fits I ok) scene-inks store-is
 
-  pub initial-is : Within costExponent 1 (errorOf I cpp)
+  pub initial-is : Bounded costExponent 1 (errorOf I cpp)
   unfolding errorOf cpeOf
   initial-is = initial-within (tilingOf I) (sceneOf I) (cppOf I cpp) (limits I ok) (scene-fits I ok) scene-inks store-is
 

@@ -15,7 +15,7 @@ use Rattle.tile.specs.Tile.{State, state, refineTile, noProgress, Covers}
 use Rattle.tile.proofs.Keeps.{Sound}
 use Rattle.walk.specs.Walk.{refined, Walk}
 use Rattle.walk.proofs.Laws.{image-covers}
-use Rattle.bounds.specs.Bound.{Within, AllWithin}
+use Rattle.bounds.specs.Bound.{Bounded, AllBounded}
 use Rattle.bounds.proofs.Within.{number, numbers}
 use Rattle.errorbounds.specs.Errors.{cpeExponent, costExponent}
 use Rattle.walkbounds.specs.Terms.{Steady, tileVisits, cellTerms, walkTileLimit, midTileLimit, tileLimit}
@@ -30,7 +30,7 @@ use Rattle.finite.proofs.Prepared.{prepared, steady, field-is, initial-
 -- ---- a tile t on a window W, whose `cpe` has gathered what m tiles add at most
 
 module _ (S : Shared) (g : Steady S) (W : Rect) (m : ℕ) (l : m ≤ tileLimit) (t : ℕ) (c : Covers (S .tiling) W (tile (S .tiling) t)) (cpe : List Float) (indices : List ℕ) (i₀ : List ℕ)
-    (s : Sound S W i₀ (3 * area W) (state cpe indices noProgress)) (w : AllWithin cpeExponent (cellTerms m) cpe) where
+    (s : Sound S W i₀ (3 * area W) (state cpe indices noProgress)) (w : AllBounded cpeExponent (cellTerms m) cpe) where
   abbrev rest : State
   rest = state cpe indices noProgress
 
@@ -42,7 +42,7 @@ module _ (S : Shared) (g : Steady S) (W : Rect) (m : ℕ) (l : m ≤ tileLimit) 
       let d = tile-sides (S .tiling) (g .limits) t in
       tile-visited S g W i₀ (cellTerms m) (few-terms m l) (tile (S .tiling) t) c (d .0) (d .1) rest at-start
 
-  pub delta-within : Within costExponent tileVisits (refineTile S W (tile (S .tiling) t) rest .progress .delta)
+  pub delta-within : Bounded costExponent tileVisits (refineTile S W (tile (S .tiling) t) rest .progress .delta)
   delta-within = at-end .delta
 
   pub tile-numbers : TileNumbers S W (tile (S .tiling) t) rest

@@ -10,12 +10,12 @@ use lib.Ieee.{Float, nan, inf, fin, binary64, up, down, fits, ofBits, round, ofI
 use borrow.Author.Tests.{ltb-true, ltb-false}
 use lib.Ieee.Bits.{ofBits-fits}
 use Rattle.base.specs.F64.{f64, wholef, _/f_}
-use Rattle.bounds.specs.Bound.{Sized, Within, AllWithin, Apart}
+use Rattle.bounds.specs.Bound.{Sized, Bounded, AllBounded, Apart}
 use Rattle.bounds.proofs.Within.{wider, add-within, sub-within, mul-within, div-within}
 use Rattle.bounds.proofs.Sums.{table-within}
 use Rattle.color.specs.declared.YyCxCz.{YyCxCz}
 use Rattle.color.specs.Lut.{srgbToLinear, linear}
-use Rattle.color.specs.YyCxCz.{Row, rowX, rowY, rowZ, rowTimes, rowSum, yycxcz}
+use Rattle.color.specs.YyCxCz.{MatrixRow, rowX, rowY, rowZ, rowTimes, matrixRowSum, yycxcz}
 use Rattle.color.specs.Inks.{channel, ink, inkValue, inkValues}
 use Rattle.color.proofs.Every.{every, at}
 use Rattle.inkbounds.specs.Inks.{inkExponent, ColourWithin}
@@ -41,7 +41,7 @@ zero-unit : T (isUnit (f64 0))
 unfolding isUnit ofBits
 zero-unit = tt
 
-pub light-within : (v : ℕ) → Within 0 1 (linear v)
+pub light-within : (v : ℕ) → Bounded 0 1 (linear v)
 unfolding linear
 light-within v = record { sized = unit-sized (f64 (getD srgbToLinear v 0)) (go (ltb v (length srgbToLinear)) refl); fits = ofBits-fits binary64 (getD srgbToLinear v 0) }
   where
@@ -51,14 +51,14 @@ light-within v = record { sized = unit-sized (f64 (getD srgbToLinear v 0)) (go (
 
 -- ---- XYZ: each factor of a row is at most 1
 
-pub record Fair (m : Row) : Type 0 where
-  pub red : Within 0 1 (m .red)
-  pub green : Within 0 1 (m .green)
-  pub blue : Within 0 1 (m .blue)
+pub record FairRow (m : MatrixRow) : Type 0 where
+  pub red : Bounded 0 1 (m .red)
+  pub green : Bounded 0 1 (m .green)
+  pub blue : Bounded 0 1 (m .blue)
   -- and the row's sum is at least 1/2
-  pub sum : Apart 1 (rowSum m)
+  pub sum : Apart 1 (matrixRowSum m)
 
-fair-rows : Fair rowX × Fair rowY × Fair rowZ
+fair-rows : FairRow rowX × FairRow rowY × FairRow rowZ
 unfolding round add fits
 fair-rows = (
   record { red = record { sized = lit≤ tt; fits = tt }; green = record { sized = lit≤ tt; fits = tt }; blue = record { sized = lit≤ tt; fits = tt }; sum = lit≤ tt },
@@ -66,19 +66,19 @@ fair-rows = (
   record { red = record { sized = lit≤ tt; fits = tt }; green = record { sized = lit≤ tt; fits = tt }; blue = record { sized = lit≤ tt; fits = tt }; sum = lit≤ tt },
 )
 
-row-within : (m : Row) → Fair m → (r g b : Float) → Within 0 1 r → Within 0 1 g → Within 0 1 b → Within 0 3 (rowTimes m r g b)
+row-within : (m : MatrixRow) → FairRow m → (r g b : Float) → Bounded 0 1 r → Bounded 0 1 g → Bounded 0 1 b → Bounded 0 3 (rowTimes m r g b)
 row-within m f r g b R G B =
     add-within (add-within (mul-within (f .red) R (lit< tt) (lit≤ tt)) (mul-within (f .green) G (lit< tt) (lit≤ tt)) (lit< tt) (lit≤ tt))
     (mul-within (f .blue) B (lit< tt) (lit≤ tt)) (lit< tt) (lit≤ tt)
 
 -- ---- YyCxCz
 
-factors : Within 7 1 (wholef 116) × Within 9 1 (wholef 500) × Within 8 1 (wholef 200)
+factors : Bounded 7 1 (wholef 116) × Bounded 9 1 (wholef 500) × Bounded 8 1 (wholef 200)
 unfolding ofInt round fits
 factors = (record { sized = lit≤ tt; fits = tt }, record { sized = lit≤ tt; fits = tt }, record { sized = lit≤ tt; fits = tt })
 
-over-white : {x : Float} (m : Row) → Fair m → Within 0 3 x → Within 1 3 (x /f rowSum m)
-over-white m f w = div-within 1 (rowSum m) w (f .sum) (lit< tt) (lit≤ tt)
+over-white : {x : Float} (m : MatrixRow) → FairRow m → Bounded 0 3 x → Bounded 1 3 (x /f matrixRowSum m)
+over-white m f w = div-within 1 (matrixRowSum m) w (f .sum) (lit< tt) (lit≤ tt)
 
 pub colour-within : (r g b : ℕ) → ColourWithin inkExponent 1 (yycxcz r g b)
 unfolding yycxcz
@@ -90,12 +90,12 @@ colour-within r g b =
     let y = row-within rowY Y (linear r) (linear g) (linear b) (light-within r) (light-within g) (light-within b) in
     let z = row-within rowZ Z (linear r) (linear g) (linear b) (light-within r) (light-within g) (light-within b) in
     record {
-      yy = wider inkExponent 1 (lit≤ tt) (div-within 1 (rowSum rowY) (mul-within (factors .0) y (lit< tt) (lit≤ tt)) (Y .sum) (lit< tt) (lit≤ tt));
+      yy = wider inkExponent 1 (lit≤ tt) (div-within 1 (matrixRowSum rowY) (mul-within (factors .0) y (lit< tt) (lit≤ tt)) (Y .sum) (lit< tt) (lit≤ tt));
       cx = wider inkExponent 1 (lit≤ tt) (mul-within (factors .1) (sub-within (over-white rowX X x) (over-white rowY Y y) (lit< tt) (lit≤ tt)) (lit< tt) (lit≤ tt));
       cz = wider inkExponent 1 (lit≤ tt) (mul-within (factors .2) (sub-within (over-white rowY Y y) (over-white rowZ Z z) (lit< tt) (lit≤ tt)) (lit< tt) (lit≤ tt));
     }
 
-pub channel-within : {b k : ℕ} {v : YyCxCz} (c : ℕ) → ColourWithin b k v → Within b k (channel c v)
+pub channel-within : {b k : ℕ} {v : YyCxCz} (c : ℕ) → ColourWithin b k v → Bounded b k (channel c v)
 unfolding channel
 channel-within zero w = w .yy
 channel-within (suc zero) w = w .cx
@@ -103,7 +103,7 @@ channel-within (suc (suc c)) w = w .cz
 
 -- ---- a palette's ink values
 
-pub inks-within : (palette : List ℕ) → AllWithin inkExponent 1 (inkValues palette)
+pub inks-within : (palette : List ℕ) → AllBounded inkExponent 1 (inkValues palette)
 unfolding inkValues inkValue ink
 inks-within palette =
     table-within inkExponent 1 (length palette) (inkValue palette) (λ i h. channel-within (i % 3) (colour-within (getD palette (3 * (i / 3)) 0) (getD palette (3 * (i / 3) + 1) 0) (getD palette (3 * (i / 3) + 2) 0)))

@@ -1,5 +1,5 @@
 -- The sizes of blurs and kernels follow from their radii, which an accepted eye bounds (`radii-fit` of the crate `eye`), so both kernels
--- stand in the store side by side. Assumes nothing.
+-- stand in the store kernelSide by kernelSide. Assumes nothing.
 use Prim.Native.Nat.{ℕ, _+_, _*_, _≤_, _<_}
 use mathlib.Core.Path.{_≡_, _∙_}
 use mathlib.Core.List.{List}
@@ -14,14 +14,14 @@ use Rattle.eye.specs.declared.DbsParams.{DbsParams}
 use Rattle.eye.specs.Constants.{alphaLum, alphaChroma}
 use Rattle.eye.specs.Eye.{sigmaPx, blurRadius, kernelRadius, KernelRadius, eyeTests}
 use Rattle.eye.proofs.EyeLaws.{radii-fit, kernel-fits}
-use Rattle.kernel.specs.Kernel.{side, values, autocorrelation, kernelOf, lumBase, chromaBase, eyeKernels}
+use Rattle.kernel.specs.Kernel.{kernelSide, values, autocorrelation, kernelOf, lumBase, chromaBase, eyeKernels}
 use Rattle.kernel.proofs.OverwriteLaws.{overwrite-in, overwrite-before}
 
 pub blur-size : (r : ℕ) → r ≤ 16 → values r ≤ 1089
-blur-size r h = let s : side r ≤ 33 = omega arith in product-le (side r) (side r) 33 33 s s
+blur-size r h = let s : kernelSide r ≤ 33 = omega arith in product-le (kernelSide r) (kernelSide r) 33 33 s s
 
 pub kernel-size : (r : ℕ) → r ≤ 16 → values (2 * r) ≤ 4225
-kernel-size r h = let s : side (2 * r) ≤ 65 = omega arith in product-le (side (2 * r)) (side (2 * r)) 65 65 s s
+kernel-size r h = let s : kernelSide (2 * r) ≤ 65 = omega arith in product-le (kernelSide (2 * r)) (kernelSide (2 * r)) 65 65 s s
 
 pub length-kernel : (sigma : Float) → length (kernelOf sigma) ≡ values (2 * blurRadius sigma)
 unfolding kernelOf autocorrelation

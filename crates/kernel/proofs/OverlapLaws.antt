@@ -3,17 +3,17 @@
 use Prim.Native.Nat.{ℕ, _+_, _-_, _*_, _≤_, _<_}
 use native.Mathlib.Omega.{arith}
 use Rattle.base.proofs.Bounds.{index-lt}
-use Rattle.kernel.specs.Kernel.{side, overlapFrom, overlapTo}
-use Rattle.kernel.specs.Ready.{Row}
+use Rattle.kernel.specs.Kernel.{kernelSide, overlapFrom, overlapTo}
+use Rattle.kernel.specs.Ready.{RowMeets}
 use Rattle.kernel.proofs.KernelLaws.{blur-size}
 
-pub overlap-some : (r o : ℕ) → o < side (2 * r) → overlapFrom r o ≤ overlapTo r o
+pub overlap-some : (r o : ℕ) → o < kernelSide (2 * r) → overlapFrom r o ≤ overlapTo r o
 overlap-some r o h = omega arith
 
 pub record Overlap (r o u : ℕ) : Type 0 where
-  pub here : u < side r
+  pub here : u < kernelSide r
   pub low : 2 * r ≤ u + o
-  pub there : u + o - 2 * r < side r
+  pub there : u + o - 2 * r < kernelSide r
 
 overlaps : (r o u : ℕ) → overlapFrom r o ≤ u → u < overlapTo r o → Overlap r o u
 overlaps r o u f t = record { here = omega arith; low = omega arith; there = omega arith }
@@ -21,14 +21,14 @@ overlaps r o u f t = record { here = omega arith; low = omega arith; there = ome
 pub record Term (len r i j x y : ℕ) : Type 0 where
   pub column : Overlap r i x
   pub row : Overlap r j y
-  pub here : y * side r + x < len
-  pub there : (y + j - 2 * r) * side r + (x + i - 2 * r) < len
+  pub here : y * kernelSide r + x < len
+  pub there : (y + j - 2 * r) * kernelSide r + (x + i - 2 * r) < len
   pub few : len ≤ 1089
   pub radius : r ≤ 16
   pub i-small : i < 65
   pub j-small : j < 65
 
-pub term : (len r i j x y : ℕ) → Row len r i j y → overlapFrom r i ≤ x → x < overlapTo r i → Term len r i j x y
+pub term : (len r i j x y : ℕ) → RowMeets len r i j y → overlapFrom r i ≤ x → x < overlapTo r i → Term len r i j x y
 term len r i j x y h f t =
     let o = h .offset in
     let a = overlaps r i x f t in

@@ -12,15 +12,15 @@ use Rattle.eye.specs.Exp.{expOf}
 use Rattle.eye.specs.Eye.{sigmaPx, blurRadius}
 
 -- how many columns, and rows, a kernel of radius r has; how many values
-abbrev pub side : ℕ → ℕ
-side r = 2 * r + 1
+abbrev pub kernelSide : ℕ → ℕ
+kernelSide r = 2 * r + 1
 
 abbrev pub values : ℕ → ℕ
-values r = side r * side r
+values r = kernelSide r * kernelSide r
 
 -- the value in column x, row y of a kernel of radius r: `Kernel2D::at`, columns and rows counted from 0
 abbrev pub entry : List Float → ℕ → ℕ → ℕ → Float
-entry k r x y = getD k (y * side r + x) nan
+entry k r x y = getD k (y * kernelSide r + x) nan
 
 -- ---- `gaussian_blur`
 
@@ -29,7 +29,7 @@ unfoldable pub gaussianAt : Float → ℕ → ℕ → Float
 gaussianAt sigma r i = let d = wholef i -f wholef r in expOf (neg (d *f d) /f (f2 *f sigma *f sigma))
 
 unfoldable pub gaussianLine : Float → ℕ → List Float
-gaussianLine sigma r = table (side r) (gaussianAt sigma r)
+gaussianLine sigma r = table (kernelSide r) (gaussianAt sigma r)
 
 -- a sum, from 0.0 and left to right
 unfoldable pub sumOf : List Float → Float
@@ -51,7 +51,7 @@ abbrev pub overlapFrom : ℕ → ℕ → ℕ
 overlapFrom r o = 2 * r - o
 
 abbrev pub overlapTo : ℕ → ℕ → ℕ
-overlapTo r o = min (side r) (side (2 * r) - o)
+overlapTo r o = min (kernelSide r) (kernelSide (2 * r) - o)
 
 -- the terms of row y of p, added to s
 unfoldable pub rowSum : List Float → ℕ → ℕ → ℕ → ℕ → Float → Float
@@ -62,7 +62,7 @@ unfoldable pub correlationAt : List Float → ℕ → ℕ → ℕ → Float
 correlationAt p r i j = fromTo (overlapFrom r j) (overlapTo r j) (rowSum p r i j) f0
 
 unfoldable pub autocorrelation : List Float → ℕ → List Float
-autocorrelation p r = table (values (2 * r)) (λ k. correlationAt p r (k % side (2 * r)) (k / side (2 * r)))
+autocorrelation p r = table (values (2 * r)) (λ k. correlationAt p r (k % kernelSide (2 * r)) (k / kernelSide (2 * r)))
 
 -- ---- the kernel store: luminance from 0, chrominance from 4,225, row by row; other cells stay
 

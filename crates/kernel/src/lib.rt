@@ -9,15 +9,15 @@ ghost use lib.ListN.{length};
 ghost use Rattle.base.specs.Loop.{overwrite};
 ghost use Rattle.base.specs.Refusal.{judge, accepted};
 ghost use Rattle.eye.specs.Eye.{Narrow, blurRadius, eyeTests};
-ghost use Rattle.kernel.specs.Kernel.{side, values, gaussianLine, sumOf, blurOf, gaussianBlur, overlapFrom, overlapTo, rowSum, correlationAt, autocorrelation, kernelOf, eyeKernels};
-ghost use Rattle.kernel.specs.Ready.{Offset, Row};
+ghost use Rattle.kernel.specs.Kernel.{kernelSide, values, gaussianLine, sumOf, blurOf, gaussianBlur, overlapFrom, overlapTo, rowSum, correlationAt, autocorrelation, kernelOf, eyeKernels};
+ghost use Rattle.kernel.specs.Ready.{Offset, RowMeets};
 
 // The lent kernel store holds both kernels: luminance from 0, chrominance from here.
 pub const CPP_CHROMA: usize = 4225;
 
 // The Gaussian at the distances -r to r, not yet normalised.
 fn gaussian_line(sigma: f64, r: usize, g: &mut [f64])
-    requires { ⌜ (r ≤ 16) × (length (now g) ≡ side r) ⌝ }
+    requires { ⌜ (r ≤ 16) × (length (now g) ≡ kernelSide r) ⌝ }
     ensures { λ _. ⌜ now (g .exit) ≡ gaussianLine sigma r ⌝ }
 {
     for i in 0..g.len() {
@@ -51,7 +51,7 @@ fn blur_from(g: &[f64], p: &mut [f64])
 
 // The blur of a given radius; g is room for the line.
 fn blur_into(sigma: f64, r: usize, g: &mut [f64], p: &mut [f64])
-    requires { ⌜ (r ≤ 16) × (length (now g) ≡ side r) × (length (now p) ≡ values r) ⌝ }
+    requires { ⌜ (r ≤ 16) × (length (now g) ≡ kernelSide r) × (length (now p) ≡ values r) ⌝ }
     ensures { λ _. ⌜ now (p .exit) ≡ blurOf (gaussianLine sigma r) ⌝ }
 {
     gaussian_line(sigma, r, g);
@@ -83,7 +83,7 @@ fn overlap_from(r: usize, o: usize) -> usize
 
 // .. and the one past the last.
 fn overlap_to(r: usize, o: usize) -> usize
-    requires { ⌜ (r ≤ 16) × (o < side (2 * r)) ⌝ }
+    requires { ⌜ (r ≤ 16) × (o < kernelSide (2 * r)) ⌝ }
     ensures { λ u. ⌜ u ≡ overlapTo r o ⌝ }
 {
     let radius = 2 * r;
@@ -96,7 +96,7 @@ fn overlap_to(r: usize, o: usize) -> usize
 
 // Adds to `from` the terms of c(d) in row y of p; d stands in column i, row j of c.
 fn correlate_row(p: &[f64], r: usize, i: usize, j: usize, y: usize, from: f64) -> f64
-    requires { ⌜ Row (length (now p)) r i j y ⌝ }
+    requires { ⌜ RowMeets (length (now p)) r i j y ⌝ }
     ensures { λ s. ⌜ s ≡ rowSum (now (p .entry)) r i j y from ⌝ }
 {
     let size = 2 * r + 1;

@@ -16,11 +16,11 @@ use Rattle.base.specs.F64.{_+f_, _-f_, _*f_, _/f_, wholef, f0, f2}
 use Rattle.base.proofs.Bounds.{product-le}
 use Rattle.base.proofs.LoopLaws.{upTo-ind}
 use Rattle.base.proofs.TableLaws.{length-table, getD-table}
-use Rattle.bounds.specs.Bound.{Ranged, Least, Within, AllWithin}
+use Rattle.bounds.specs.Bound.{Ranged, Least, Bounded, AllBounded}
 use Rattle.bounds.proofs.Ranges.{neg-ranged, mul-ranged, mul-least, div-ranged, add-ranged, add-least, ranged-within}
 use Rattle.bounds.proofs.Sums.{table-within}
 use Rattle.eye.specs.Eye.{blurRadius}
-use Rattle.kernel.specs.Kernel.{side, gaussianAt, gaussianLine, sumOf, blurAt, blurOf, gaussianBlur}
+use Rattle.kernel.specs.Kernel.{kernelSide, gaussianAt, gaussianLine, sumOf, blurAt, blurOf, gaussianBlur}
 use Rattle.kernelbounds.specs.Kernels.{Fitting}
 use Rattle.kernelbounds.proofs.Exp.{exp-ranged, exp-least}
 use Rattle.kernelbounds.proofs.Width.{spread}
@@ -65,7 +65,7 @@ centres : T (allBelow (λ r. isRanged 0 (square r r)) 17)
 unfolding allBelow isRanged ofInt round sub add mul
 centres = tt
 
-square-ranged : (r i : ℕ) → r ≤ 16 → i < side r → Ranged false (r * r) (square r i)
+square-ranged : (r i : ℕ) → r ≤ 16 → i < kernelSide r → Ranged false (r * r) (square r i)
 square-ranged r i h k = ranged-of (r * r) (square r i) (at (λ i. isRanged (r * r) (square r i)) (2 * r + 1) (at (λ r. allBelow (λ i. isRanged (r * r) (square r i)) (2 * r + 1)) 17 squares r (omega arith)) i k)
 
 centre-ranged : (r : ℕ) → r ≤ 16 → Ranged false 0 (square r r)
@@ -81,7 +81,7 @@ module _ (sigma : Float) (f : Fitting sigma) where
   exponent i = neg (square r i) /f (f2 *f sigma *f sigma)
 
   -- its exponents lie from -1,024 to 0
-  exponent-ranged : (i : ℕ) → i < side r → Ranged true 1024 (exponent i)
+  exponent-ranged : (i : ℕ) → i < kernelSide r → Ranged true 1024 (exponent i)
   exponent-ranged i h =
       let n = neg-ranged (r * r) (square r i) (square-ranged r i (f .reach) h) in
       ⊎-elim
@@ -94,7 +94,7 @@ module _ (sigma : Float) (f : Fitting sigma) where
       let n = neg-ranged 0 (square r r) (centre-ranged r (f .reach)) in
       ⊎-elim (λ w. div-ranged true 0 0 1 4 _ _ n w (lit≤ tt) (lit≤ tt) (lit< tt)) (λ w. div-ranged true 0 0 1 256 _ _ n (w .0) (lit≤ tt) (lit≤ tt) (lit< tt)) (spread sigma f)
 
-  gaussian-ranged : (i : ℕ) → i < side r → Ranged false 1 (gaussianAt sigma r i)
+  gaussian-ranged : (i : ℕ) → i < kernelSide r → Ranged false 1 (gaussianAt sigma r i)
   unfolding gaussianAt
   gaussian-ranged i h = exp-ranged (exponent i) (exponent-ranged i h)
 
@@ -107,13 +107,13 @@ module _ (sigma : Float) (f : Fitting sigma) where
   abbrev g : List Float
   g = gaussianLine sigma r
 
-  length-line : length g ≡ side r
+  length-line : length g ≡ kernelSide r
   unfolding gaussianLine
-  length-line = length-table (side r) (gaussianAt sigma r)
+  length-line = length-table (kernelSide r) (gaussianAt sigma r)
 
-  line-at : (i : ℕ) → i < side r → getD g i nan ≡ gaussianAt sigma r i
+  line-at : (i : ℕ) → i < kernelSide r → getD g i nan ≡ gaussianAt sigma r i
   unfolding gaussianLine
-  line-at i h = getD-table (side r) (gaussianAt sigma r) i nan h
+  line-at i h = getD-table (kernelSide r) (gaussianAt sigma r) i nan h
 
   zero-ranged : Ranged false 0 f0
   unfolding ofBits
@@ -123,7 +123,7 @@ module _ (sigma : Float) (f : Fitting sigma) where
   abbrev Added : ℕ → Float → Type 0
   Added i s = Ranged false i s × (r < i → Least 1 1 s)
 
-  added : (i : ℕ) → i < side r → (s : Float) → Added i s → Added (suc i) (s +f getD g i nan)
+  added : (i : ℕ) → i < kernelSide r → (s : Float) → Added i s → Added (suc i) (s +f getD g i nan)
   added i h s a = rw (line-at i h) (
     subst (λ (k : ℕ). Ranged false k (s +f gaussianAt sigma r i)) (omega arith) (add-ranged i 1 s (gaussianAt sigma r i) (a .0) (gaussian-ranged i h) (omega (arith, f .reach))),
     λ l. add-least i 1 s (gaussianAt sigma r i) (a .0) (gaussian-ranged i h) (omega (arith, f .reach)) (one (ℕ-discrete i r) l),
@@ -133,9 +133,9 @@ module _ (sigma : Float) (f : Fitting sigma) where
       one (yes e) l = inr (subst (λ (k : ℕ). Least 1 1 (gaussianAt sigma r k)) (sym e) centre-least)
       one (no e) l = inl (a .1 (omega (arith, e)))
 
-  sum-added : Added (side r) (sumOf g)
+  sum-added : Added (kernelSide r) (sumOf g)
   unfolding sumOf
-  sum-added = rw length-line (upTo-ind Added (λ i s. s +f getD g i nan) (side r) added f0 (zero-ranged, λ l. absurd (omega arith)))
+  sum-added = rw length-line (upTo-ind Added (λ i s. s +f getD g i nan) (kernelSide r) added f0 (zero-ranged, λ l. absurd (omega arith)))
 
   abbrev total : Float
   total = sumOf g *f sumOf g
@@ -143,29 +143,29 @@ module _ (sigma : Float) (f : Fitting sigma) where
   total-least : Least 1 1 total
   total-least =
       let s = sum-added in
-      mul-least (side r) (side r) 1089 (sumOf g) (sumOf g) (s .0) (s .0) (s .1 (omega arith)) (s .1 (omega arith)) (product-le (side r) (side r) 33 33 (omega (arith, f .reach)) (omega (arith, f .reach))) (lit< tt)
+      mul-least (kernelSide r) (kernelSide r) 1089 (sumOf g) (sumOf g) (s .0) (s .0) (s .1 (omega arith)) (s .1 (omega arith)) (product-le (kernelSide r) (kernelSide r) 33 33 (omega (arith, f .reach)) (omega (arith, f .reach))) (lit< tt)
 
   -- ---- the blur
 
-  blur-ranged : (i : ℕ) → i < side r * side r → Ranged false 1 (blurAt g (sumOf g) i)
+  blur-ranged : (i : ℕ) → i < kernelSide r * kernelSide r → Ranged false 1 (blurAt g (sumOf g) i)
   unfolding blurAt
   blur-ranged i h =
-      let some : 0 < side r = omega arith in
-      let a : i / side r < side r = div-lt-iff-lt-mul some .1 h in
-      let b : i % side r < side r = mod-lt i some in
-      rw (length-line, line-at (i / side r) a, line-at (i % side r) b)
-      (div-ranged false 1 1 1 1 _ total (mul-ranged false false 1 1 1 _ _ (gaussian-ranged (i / side r) a) (gaussian-ranged (i % side r) b) (lit≤ tt) (lit< tt)) total-least (lit≤ tt) (lit≤ tt) (lit< tt))
+      let some : 0 < kernelSide r = omega arith in
+      let a : i / kernelSide r < kernelSide r = div-lt-iff-lt-mul some .1 h in
+      let b : i % kernelSide r < kernelSide r = mod-lt i some in
+      rw (length-line, line-at (i / kernelSide r) a, line-at (i % kernelSide r) b)
+      (div-ranged false 1 1 1 1 _ total (mul-ranged false false 1 1 1 _ _ (gaussian-ranged (i / kernelSide r) a) (gaussian-ranged (i % kernelSide r) b) (lit≤ tt) (lit< tt)) total-least (lit≤ tt) (lit≤ tt) (lit< tt))
 
-  blur-at-within : (i : ℕ) → i < length g * length g → Within 0 1 (blurAt g (sumOf g) i)
+  blur-at-within : (i : ℕ) → i < length g * length g → Bounded 0 1 (blurAt g (sumOf g) i)
   blur-at-within i h = ranged-within false 1 _ (blur-ranged i (rw length-line at h)) (fits i)
     where
       fits : (i : ℕ) → T (lib.Ieee.fits binary64 (blurAt g (sumOf g) i))
       fits i = unfold blurAt in div-fits binary64 _ total
 
-  pub blur-within : AllWithin 0 1 (gaussianBlur sigma)
+  pub blur-within : AllBounded 0 1 (gaussianBlur sigma)
   unfolding gaussianBlur blurOf
   blur-within = table-within 0 1 (length g * length g) (blurAt g (sumOf g)) blur-at-within
 
-  pub length-blur : length (gaussianBlur sigma) ≡ side r * side r
+  pub length-blur : length (gaussianBlur sigma) ≡ kernelSide r * kernelSide r
   unfolding gaussianBlur blurOf
-  length-blur = rw length-line (length-table (side r * side r) (blurAt g (sumOf g)))
+  length-blur = rw length-line (length-table (kernelSide r * kernelSide r) (blurAt g (sumOf g)))

@@ -21,7 +21,7 @@ use Rattle.error.specs.Error.{Scene, errorAt}
 use Rattle.error.specs.Rows.{errorInRow}
 use Rattle.measure.specs.declared.Frame.{Frame}
 use Rattle.measure.specs.declared.Block.{Block}
-use Rattle.measure.specs.Measure.{entry, blurTerm, blurRow, blurredAt, squareTerm, rowError}
+use Rattle.measure.specs.Measure.{blurEntry, blurTerm, blurRow, blurredAt, squareTerm, rowError}
 use Rattle.measure.specs.Blocks.{mirrored, block, blockLines, firstColumn, columnCount, blurRows, Blurred, squareOf, lineSquares, BlockFits}
 
 -- ---- the blur, last value to first
@@ -39,7 +39,7 @@ mirror-place t d e p q =
     mirror-sum square side low high t d p w r = omega (arith, p, w, r)
 
 tap-is : (blur taps : List Float) (r d e : ℕ) → taps ≡ table ((2 * r + 1) * (2 * r + 1)) (mirrored blur ((2 * r + 1) * (2 * r + 1))) → d ≤ 2 * r → e ≤ 2 * r →
-    at taps (e * (2 * r + 1) + d) ≡ entry blur r (2 * r - d) (2 * r - e)
+    at taps (e * (2 * r + 1) + d) ≡ blurEntry blur r (2 * r - d) (2 * r - e)
 unfolding mirrored
 tap-is blur taps r d e made p q =
     let n = 2 * r + 1 in
@@ -149,7 +149,7 @@ module _ (F : Frame) (G : Scene) (blur : List Float) (c : ℕ) (B : Block) (fits
         let ox = B .x + j in
         let oy = B .y + i in
         let long : length line ≡ m = ap (λ (l : List Float). length l) e ∙ length-table _ _ in
-        fromTo-rel (λ (t u : Float). t ≡ u) (j + 0 - lead) (min (length line) (j + n - lead)) (j - lead) (min m (j + n - lead)) _ (λ q t. t +f entry blur (F .radius) (ox - (x0 + q)) (oy - y) *f channel c (errorAt (F .width) G (x0 + q) y)) (omega arith) (ap (λ (k : ℕ). min k (j + n - lead)) long)
+        fromTo-rel (λ (t u : Float). t ≡ u) (j + 0 - lead) (min (length line) (j + n - lead)) (j - lead) (min m (j + n - lead)) _ (λ q t. t +f blurEntry blur (F .radius) (ox - (x0 + q)) (oy - y) *f channel c (errorAt (F .width) G (x0 + q) y)) (omega arith) (ap (λ (k : ℕ). min k (j + n - lead)) long)
         (λ q left right t u same.
         let row = y + reach - B .y - i in
         let column = q + lead - j in
@@ -157,14 +157,14 @@ module _ (F : Frame) (G : Scene) (blur : List Float) (c : ℕ) (B : Block) (fits
         let past : q < j + n - lead = lt-right q (length line) (j + n - lead) right in
         let in-line : q < m = subst (λ (k : ℕ). q < k) long (lt-left q (length line) (j + n - lead) right) in
         let column-lt : column ≤ reach = column-le (B .x) reach j q past in
-        let tap : at taps (row * n + column) ≡ entry blur (F .radius) (reach - column) (reach - row) = tap-is blur taps (F .radius) column row mirror column-lt row-lt in
+        let tap : at taps (row * n + column) ≡ blurEntry blur (F .radius) (reach - column) (reach - row) = tap-is blur taps (F .radius) column row mirror column-lt row-lt in
         let own-row : reach - row ≡ oy - y = row-of y reach (B .y) i above below in
         let own-column : reach - column ≡ ox - (x0 + q) = column-is (B .x) reach j q (rw add-zero at left) past in
         let value : at line q ≡ channel c (errorAt (F .width) G (x0 + q) y) = ap (λ (l : List Float). at l q) e ∙ getD-table m (errorInRow (F .width) G c x0 y) q nan in-line in
         rw (same, tap, own-row, own-column, value))
         s s refl
-        ∙ shift x0 (j - lead) (min m (j + n - lead)) (λ x t. t +f entry blur (F .radius) (ox - x) (oy - y) *f channel c (errorAt (F .width) G x y)) s
-        ∙ ends (λ x t. t +f entry blur (F .radius) (ox - x) (oy - y) *f channel c (errorAt (F .width) G x y)) s (span-first (B .x) reach j) (span-past (F .width) (B .x) reach (B .columns) j in-j (fits .right))
+        ∙ shift x0 (j - lead) (min m (j + n - lead)) (λ x t. t +f blurEntry blur (F .radius) (ox - x) (oy - y) *f channel c (errorAt (F .width) G x y)) s
+        ∙ ends (λ x t. t +f blurEntry blur (F .radius) (ox - x) (oy - y) *f channel c (errorAt (F .width) G x y)) s (span-first (B .x) reach j) (span-past (F .width) (B .x) reach (B .columns) j in-j (fits .right))
       where
         ends : {a b a′ b′ : ℕ} (f : ℕ → Float → Float) (t : Float) → a ≡ a′ → b ≡ b′ → fromTo a b f t ≡ fromTo a′ b′ f t
         ends f t p q = rw (p, q)

@@ -15,14 +15,14 @@ abbrev pub frame : ℕ → ℕ → ℕ → Frame
 frame width height radius = record { width = width; height = height; radius = radius }
 
 -- the value in column i and row j of a blur of radius r; of a blur's (2r + 1)² values none is past the list's end
-abbrev pub entry : List Float → ℕ → ℕ → ℕ → Float
-entry blur r i j = getD blur (j * (2 * r + 1) + i) nan
+abbrev pub blurEntry : List Float → ℕ → ℕ → ℕ → Float
+blurEntry blur r i j = getD blur (j * (2 * r + 1) + i) nan
 
 -- channel c of the error of an image, seen through a blur
 module _ (F : Frame) (G : Scene) (blur : List Float) (c : ℕ) where
   -- the term of pixel (x, y), added to s
   unfoldable pub blurTerm : ℕ → ℕ → ℕ → ℕ → Float → Float
-  blurTerm ox oy y x s = s +f entry blur (F .radius) (ox - x) (oy - y) *f channel c (errorAt (F .width) G x y)
+  blurTerm ox oy y x s = s +f blurEntry blur (F .radius) (ox - x) (oy - y) *f channel c (errorAt (F .width) G x y)
 
   -- the terms of row y
   unfoldable pub blurRow : ℕ → ℕ → ℕ → Float → Float

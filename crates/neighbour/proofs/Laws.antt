@@ -7,7 +7,7 @@ use native.Mathlib.Omega.{arith}
 use borrow.Author.Tests.{le-ltb, lt-ltb}
 use lib.IntN.{ℤ, pos, negsuc}
 use Rattle.base.proofs.Bounds.{lt-or-ge}
-use Rattle.neighbour.specs.Neighbour.{Small, offsetOf, shiftedOf, joined, placed, neighbourOf}
+use Rattle.neighbour.specs.Neighbour.{Small, offsetOf, shiftedOf, adjacentAt, adjacentBy, neighbourOf}
 use Rattle.neighbour.specs.declared.Offset.{Offset}
 use Rattle.neighbour.specs.declared.Offset.the-variants.{By, Nothing}
 use Rattle.neighbour.specs.declared.Shift.{Shift}
@@ -73,12 +73,12 @@ abbrev pub Beyond : ℕ → ℕ → ℕ → ℕ → Adjacent → Type 0
 Beyond x y w h (Pixel u v) = Beside x u w × Beside y v h
 Beyond x y w h Outside = Unit {0}
 
-joins : (x y w h : ℕ) (a b : Shift) → Besides x w a → Besides y h b → Beyond x y w h (joined a b)
+joins : (x y w h : ℕ) (a b : Shift) → Besides x w a → Besides y h b → Beyond x y w h (adjacentAt a b)
 joins x y w h (To u) (To v) p q = (p, q)
 joins x y w h (To u) Out p q = tt
 joins x y w h Out b p q = tt
 
-places : (x y w h : ℕ) (o : Offset) → Smalls o → x < w → y < h → Beyond x y w h (placed o x y w h)
+places : (x y w h : ℕ) (o : Offset) → Smalls o → x < w → y < h → Beyond x y w h (adjacentBy o x y w h)
 places x y w h (By dx dy) s p q = joins x y w h (shiftedOf x dx w) (shiftedOf y dy h) (beside x w dx (s .0) p) (beside y h dy (s .1) q)
 places x y w h Nothing s p q = tt
 

@@ -33,23 +33,23 @@ pickShift true a b = a
 pickShift false a b = b
 
 -- the whole number z, where it is one from 0 to n - 1
-abbrev pub within : ℤ → ℕ → Shift
-within (pos k) n = pickShift (ltb k n) (To k) Out
-within (negsuc k) n = Out
+abbrev pub inRange : ℤ → ℕ → Shift
+inRange (pos k) n = pickShift (ltb k n) (To k) Out
+inRange (negsuc k) n = Out
 
 -- v + d, where it lies below n
 abbrev pub shiftedOf : ℕ → ℤ → ℕ → Shift
-shiftedOf v d n = within (pos v +ℤ d) n
+shiftedOf v d n = inRange (pos v +ℤ d) n
 
-abbrev pub joined : Shift → Shift → Adjacent
-joined (To x) (To y) = Pixel x y
-joined (To x) Out = Outside
-joined Out b = Outside
+abbrev pub adjacentAt : Shift → Shift → Adjacent
+adjacentAt (To x) (To y) = Pixel x y
+adjacentAt (To x) Out = Outside
+adjacentAt Out b = Outside
 
-abbrev pub placed : Offset → ℕ → ℕ → ℕ → ℕ → Adjacent
-placed (By dx dy) x y w h = joined (shiftedOf x dx w) (shiftedOf y dy h)
-placed Nothing x y w h = Outside
+abbrev pub adjacentBy : Offset → ℕ → ℕ → ℕ → ℕ → Adjacent
+adjacentBy (By dx dy) x y w h = adjacentAt (shiftedOf x dx w) (shiftedOf y dy h)
+adjacentBy Nothing x y w h = Outside
 
 -- the neighbour of (x, y) that a code names, in an image of w columns and h rows
 abbrev pub neighbourOf : ℕ → ℕ → ℕ → ℕ → ℕ → Adjacent
-neighbourOf code x y w h = placed (offsetOf code) x y w h
+neighbourOf code x y w h = adjacentBy (offsetOf code) x y w h

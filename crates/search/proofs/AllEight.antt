@@ -4,7 +4,7 @@ use mathlib.Core.Logic.{⊎-elim}
 use Prim.Native.Nat.{ℕ, zero, suc, _+_, _*_, _<_, _≤_}
 use native.Mathlib.Omega.{arith}
 use lib.IntN.{ℤ}
-use Rattle.neighbour.specs.Neighbour.{Small, offsetOf, shiftedOf, joined, placed, neighbourOf}
+use Rattle.neighbour.specs.Neighbour.{Small, offsetOf, shiftedOf, adjacentAt, adjacentBy, neighbourOf}
 use Rattle.neighbour.specs.declared.Offset.{Offset}
 use Rattle.neighbour.specs.declared.Offset.the-variants.{By, Nothing}
 use Rattle.neighbour.specs.declared.Shift.{Shift}
@@ -31,7 +31,7 @@ abbrev pub Found : Adjacent → Type 0
 Found (Pixel u v) = Unit {0}
 Found Outside = ⊥
 
-joins : (a b : Shift) → Moved a → Moved b → Found (joined a b)
+joins : (a b : Shift) → Moved a → Moved b → Found (adjacentAt a b)
 joins (To u) (To v) p q = tt
 joins (To u) Out p q = absurd q
 joins Out b p q = absurd p
@@ -51,7 +51,7 @@ given (suc (suc (suc (suc (suc (suc zero)))))) h = tt
 given (suc (suc (suc (suc (suc (suc (suc zero))))))) h = tt
 given (suc (suc (suc (suc (suc (suc (suc (suc n)))))))) h = absurd (omega arith)
 
-places : (x y w h : ℕ) (o : Offset) → Given o → Smalls o → 1 ≤ x → x + 1 < w → 1 ≤ y → y + 1 < h → Found (placed o x y w h)
+places : (x y w h : ℕ) (o : Offset) → Given o → Smalls o → 1 ≤ x → x + 1 < w → 1 ≤ y → y + 1 < h → Found (adjacentBy o x y w h)
 places x y w h (By dx dy) g s a b c d = joins (shiftedOf x dx w) (shiftedOf y dy h) (moved x w dx (s .0) a b) (moved y h dy (s .1) c d)
 places x y w h Nothing g s a b c d = absurd g
 

@@ -21,7 +21,7 @@ use Rattle.base.proofs.Bounds.{image-product}
 use Rattle.base.proofs.TableLaws.{getD-table}
 use Rattle.color.specs.declared.YyCxCz.{YyCxCz}
 use Rattle.color.specs.Values.{valuesAt, lessOf}
-use Rattle.neighbour.specs.Neighbour.{Small, offsetOf, shiftedOf, joined, placed, neighbourOf}
+use Rattle.neighbour.specs.Neighbour.{Small, offsetOf, shiftedOf, adjacentAt, adjacentBy, neighbourOf}
 use Rattle.neighbour.specs.declared.Offset.{Offset}
 use Rattle.neighbour.specs.declared.Offset.the-variants.{By, Nothing}
 use Rattle.neighbour.specs.declared.Shift.{Shift}
@@ -74,12 +74,12 @@ along v n d s p q =
     t)
     s
 
-joins : (a b : ℕ) (p q : Shift) → joined (shiftOn a p) (shiftOn b q) ≡ pixelOn a b (joined p q)
+joins : (a b : ℕ) (p q : Shift) → adjacentAt (shiftOn a p) (shiftOn b q) ≡ pixelOn a b (adjacentAt p q)
 joins a b (To u) (To v) = refl
 joins a b (To u) Out = refl
 joins a b Out q = refl
 
-places : (x y w h : ℕ) (o : Offset) → Smalls o → 1 ≤ x → x + 1 < w → 1 ≤ y → y + 1 < h → placed o x y w h ≡ pixelOn (x - 1) (y - 1) (placed o 1 1 3 3)
+places : (x y w h : ℕ) (o : Offset) → Smalls o → 1 ≤ x → x + 1 < w → 1 ≤ y → y + 1 < h → adjacentBy o x y w h ≡ pixelOn (x - 1) (y - 1) (adjacentBy o 1 1 3 3)
 places x y w h (By dx dy) s a b c d = rw (along x w dx (s .0) a b, along y h dy (s .1) c d) (joins (x - 1) (y - 1) (shiftedOf 1 dx 3) (shiftedOf 1 dy 3))
 places x y w h Nothing s a b c d = refl
 

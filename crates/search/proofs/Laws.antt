@@ -19,7 +19,7 @@ use Rattle.search.specs.declared.Site.{Site}
 use Rattle.search.specs.declared.Move.{Move}
 use Rattle.search.specs.declared.Move.the-variants.{Stay, Toggle, Swap}
 use Rattle.search.specs.Shared.{Shared, cpeAt, indexAt}
-use Rattle.search.specs.Search.{eligible, partnerOf, betterOf, noMove, siteAt, tryToggle, toggles, swapWith, trySwap, swaps, evaluateOf, Fair}
+use Rattle.search.specs.Search.{eligible, partnerOf, betterOf, noMove, siteAt, tryToggle, toggles, swapWith, trySwap, swaps, evaluateOf, FairMove}
 use Rattle.search.proofs.Order.{lt-trans}
 pub use Rattle.search.proofs.Window.{place-index, cpe-values, window-limits, index-named, mask-fits, ready-limits, ready-mask, ready-index, kernel-fits, held-inside, neighbour-inside, partner-is}
 
@@ -30,8 +30,8 @@ cond-keeps P true a b p q = p refl
 cond-keeps P false a b p q = q refl
 
 module _ (P : Best → Type 0) (S : Shared) (W : Rect) (cpe : List Float) (indices : List ℕ) (x y : ℕ)
-    (step : (b : Best) (cost : Float) (mv : Move) → P b → lt cost (b .cost) ≡ true → Fair S W indices x y mv → P (record { cost = cost; mv = mv })) where
-  better-keeps : (b : Best) (cost : Float) (mv : Move) → P b → Fair S W indices x y mv → P (betterOf b cost mv)
+    (step : (b : Best) (cost : Float) (mv : Move) → P b → lt cost (b .cost) ≡ true → FairMove S W indices x y mv → P (record { cost = cost; mv = mv })) where
+  better-keeps : (b : Best) (cost : Float) (mv : Move) → P b → FairMove S W indices x y mv → P (betterOf b cost mv)
   better-keeps b cost mv p f = cond-keeps P (lt cost (b .cost)) (record { cost = cost; mv = mv }) b (λ e. step b cost mv p e f) (λ e. p)
 
   toggles-keep : (b : Best) → P b → P (toggles S (siteAt W cpe indices x y) b)
@@ -56,8 +56,8 @@ module _ (P : Best → Type 0) (S : Shared) (W : Rect) (cpe : List Float) (indic
   evaluate-keeps b p = swaps-keep _ (toggles-keep b p)
 
 module _ (S : Shared) (W : Rect) (cpe : List Float) (indices : List ℕ) (x y : ℕ) where
-  pub evaluate-fair : Fair S W indices x y (evaluateOf S W cpe indices x y noMove .mv)
-  evaluate-fair = evaluate-keeps (λ b. Fair S W indices x y (b .mv)) S W cpe indices x y (λ b cost mv p e f. f) noMove tt
+  pub evaluate-fair : FairMove S W indices x y (evaluateOf S W cpe indices x y noMove .mv)
+  evaluate-fair = evaluate-keeps (λ b. FairMove S W indices x y (b .mv)) S W cpe indices x y (λ b cost mv p e f. f) noMove tt
 
   pub evaluate-either : (evaluateOf S W cpe indices x y noMove ≡ noMove) ⊎ (lt (evaluateOf S W cpe indices x y noMove .cost) (noMove .cost) ≡ true)
   evaluate-either =

@@ -145,7 +145,7 @@ pub record FairSwap (S : Shared) (W : Rect) (indices : List ℕ) (x y code : ℕ
   pub partner : partnerOf S W indices x y (indexAt W indices x y) code ≡ Pixel nx ny
 
 -- a move that pixel (x, y) may make
-abbrev pub Fair : Shared → Rect → List ℕ → ℕ → ℕ → Move → Type 0
-Fair S W indices x y Stay = Unit {0}
-Fair S W indices x y (Toggle j) = FairToggle S W indices x y j
-Fair S W indices x y (Swap code) = FairSwap S W indices x y code
+abbrev pub FairMove : Shared → Rect → List ℕ → ℕ → ℕ → Move → Type 0
+FairMove S W indices x y Stay = Unit {0}
+FairMove S W indices x y (Toggle j) = FairToggle S W indices x y j
+FairMove S W indices x y (Swap code) = FairSwap S W indices x y code

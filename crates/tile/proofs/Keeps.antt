@@ -23,7 +23,7 @@ use Rattle.sweep.proofs.Laws.{length-addKernels}
 use Rattle.search.specs.declared.Move.{Move}
 use Rattle.search.specs.declared.Move.the-variants.{Stay, Toggle, Swap}
 use Rattle.search.specs.Shared.{Shared, indexAt, Named, Held}
-use Rattle.search.specs.Search.{noMove, evaluateOf, Fair}
+use Rattle.search.specs.Search.{noMove, evaluateOf, FairMove}
 use Rattle.search.proofs.Laws.{held-inside, neighbour-inside, partner-is, evaluate-fair, index-named}
 use Rattle.moves.specs.declared.Progress.{Progress}
 use Rattle.moves.specs.Moves.{exchanged, movedIndices, swapKernels, movedCpe, counted}
@@ -92,7 +92,7 @@ module _ (S : Shared) (W : Rect) where
         let m = held-inside (S .tiling) W x y h in
         put-kept i₀ _ nx ny _ i f (index-lt i₀ l x y m r) (put-kept i₀ l x y _ m free (index-lt i₀ l nx ny i r) r)
 
-    moved-kept : (l : List ℕ) (m : Move) → Fair S W l x y m → Kept i₀ l → Kept i₀ (movedIndices (S .tiling) W x y m l)
+    moved-kept : (l : List ℕ) (m : Move) → FairMove S W l x y m → Kept i₀ l → Kept i₀ (movedIndices (S .tiling) W x y m l)
     unfolding movedIndices
     moved-kept l Stay f r = r
     moved-kept l (Toggle j) f r = put-kept i₀ l x y j (held-inside (S .tiling) W x y h) free (f .named) r

@@ -17,7 +17,7 @@ use Rattle.pins.specs.Pins.{MaskFits, pinnedAt}
 use Rattle.search.specs.declared.Move.{Move}
 use Rattle.search.specs.declared.Move.the-variants.{Stay, Toggle, Swap}
 use Rattle.search.specs.Shared.{Shared, shared, Ready, Held}
-use Rattle.search.specs.Search.{Fair, noMove, evaluateOf}
+use Rattle.search.specs.Search.{FairMove, noMove, evaluateOf}
 use Rattle.search.proofs.Laws.{evaluate-fair}
 use Rattle.moves.specs.declared.Progress.{Progress}
 use Rattle.moves.specs.Moves.{Writable, NamesInk, swapKernels, movedCpe}
@@ -45,7 +45,7 @@ ready-writable r = record {
   named = λ i h. omega (arith, r .named i h, r .inks-room);
 }
 
-fair-names : (S : Shared) (W : Rect) (l : List ℕ) (x y : ℕ) (m : Move) → length (S .inks) ≡ 3 * S .count → Fair S W l x y m → NamesInk (S .inks) m
+fair-names : (S : Shared) (W : Rect) (l : List ℕ) (x y : ℕ) (m : Move) → length (S .inks) ≡ 3 * S .count → FairMove S W l x y m → NamesInk (S .inks) m
 fair-names S W l x y Stay e f = tt
 fair-names S W l x y (Toggle j) e f = omega (arith, f .named, e)
 fair-names S W l x y (Swap code) e f = tt

@@ -25,10 +25,10 @@ use Rattle.search.specs.declared.Site.{Site}
 use Rattle.search.specs.declared.Move.{Move}
 use Rattle.search.specs.declared.Move.the-variants.{Stay, Toggle, Swap}
 use Rattle.search.specs.Shared.{Shared, inkAt, cpeAt, indexAt, Named, Held}
-use Rattle.search.specs.Search.{centreOf, valueOf, besideOf, centres, gaps, toggleTerm, swapTerm, total, toggleCost, swapCost, betterOf, noMove, siteAt, tryToggle, toggles, partnerOf, swapWith, trySwap, swaps, evaluateOf, Fair}
+use Rattle.search.specs.Search.{centreOf, valueOf, besideOf, centres, gaps, toggleTerm, swapTerm, total, toggleCost, swapCost, betterOf, noMove, siteAt, tryToggle, toggles, partnerOf, swapWith, trySwap, swaps, evaluateOf, FairMove}
 use Rattle.search.proofs.AllEight.{Found, centre-found}
 use Rattle.search.proofs.Laws.{held-inside, neighbour-inside, partner-is, index-named}
-use Rattle.bounds.specs.Bound.{Within, AllWithin, countLimit}
+use Rattle.bounds.specs.Bound.{Bounded, AllBounded, countLimit}
 use Rattle.bounds.proofs.Within.{zero-within, wider, more, add-within, sub-within, mul-within}
 use Rattle.inkbounds.specs.Inks.{ColourWithin, inkExponent}
 use Rattle.kernelbounds.specs.Kernels.{kernelExponent}
@@ -56,55 +56,55 @@ module _ (S : Shared) (W : Rect) (cpe : List Float) (indices : List ℕ) (x y : 
 
 -- ---- the formulas, for `cpe` values of at most 2^78
 
-two : Within 1 1 f2
+two : Bounded 1 1 f2
 unfolding ofBits fits
 two = record { sized = lit≤ tt; fits = tt }
 
-toggle-term : {p a c : Float} → Within 11 1 p → Within 14 1 a → Within 78 1 c → Within 93 2 (toggleTerm p a c)
+toggle-term : {p a c : Float} → Bounded 11 1 p → Bounded 14 1 a → Bounded 78 1 c → Bounded 93 2 (toggleTerm p a c)
 toggle-term p a c =
     add-within (wider 93 1 (lit≤ tt) (mul-within (mul-within p a (lit< tt) (lit≤ tt)) a (lit< tt) (lit≤ tt)))
     (mul-within (mul-within two a (lit< tt) (lit≤ tt)) c (lit< tt) (lit≤ tt)) (lit< tt) (lit≤ tt)
 
-swap-term : {g a c n : Float} → Within 11 2 g → Within 14 1 a → Within 78 1 c → Within 78 1 n → Within 93 3 (swapTerm g a c n)
+swap-term : {g a c n : Float} → Bounded 11 2 g → Bounded 14 1 a → Bounded 78 1 c → Bounded 78 1 n → Bounded 93 3 (swapTerm g a c n)
 swap-term g a c n =
     add-within (wider 93 1 (lit≤ tt) (mul-within (mul-within (mul-within two a (lit< tt) (lit≤ tt)) a (lit< tt) (lit≤ tt)) g (lit< tt) (lit≤ tt)))
     (mul-within (mul-within two a (lit< tt) (lit≤ tt)) (sub-within c n (lit< tt) (lit≤ tt)) (lit< tt) (lit≤ tt)) (lit< tt) (lit≤ tt)
 
 -- three terms of at most 3 · 2^93
-total-within : {x y z : Float} → Within 93 3 x → Within 93 3 y → Within 93 3 z → Within costExponent 1 (total x y z)
+total-within : {x y z : Float} → Bounded 93 3 x → Bounded 93 3 y → Bounded 93 3 z → Bounded costExponent 1 (total x y z)
 total-within x y z = wider costExponent 1 (lit≤ tt) (add-within (add-within (add-within (zero-within 93) x (lit< tt) (lit≤ tt)) y (lit< tt) (lit≤ tt)) z (lit< tt) (lit≤ tt))
 
-toggle-cost : {p a c : YyCxCz} → ColourWithin 11 1 p → ColourWithin 14 1 a → ColourWithin 78 1 c → Within costExponent 1 (toggleCost p a c)
+toggle-cost : {p a c : YyCxCz} → ColourWithin 11 1 p → ColourWithin 14 1 a → ColourWithin 78 1 c → Bounded costExponent 1 (toggleCost p a c)
 unfolding toggleCost
 toggle-cost p a c =
     total-within (more 3 (lit≤ tt) (toggle-term (p .yy) (a .yy) (c .yy))) (more 3 (lit≤ tt) (toggle-term (p .cx) (a .cx) (c .cx))) (more 3 (lit≤ tt) (toggle-term (p .cz) (a .cz) (c .cz)))
 
-swap-cost : {g a c n : YyCxCz} → ColourWithin 11 2 g → ColourWithin 14 1 a → ColourWithin 78 1 c → ColourWithin 78 1 n → Within costExponent 1 (swapCost g a c n)
+swap-cost : {g a c n : YyCxCz} → ColourWithin 11 2 g → ColourWithin 14 1 a → ColourWithin 78 1 c → ColourWithin 78 1 n → Bounded costExponent 1 (swapCost g a c n)
 unfolding swapCost
 swap-cost g a c n = total-within (swap-term (g .yy) (a .yy) (c .yy) (n .yy)) (swap-term (g .cx) (a .cx) (c .cx) (n .cx)) (swap-term (g .cz) (a .cz) (c .cz) (n .cz))
 
-pub none-within : Within costExponent 1 (noMove .cost)
+pub none-within : Bounded costExponent 1 (noMove .cost)
 unfolding round neg fits
 none-within = record { sized = lit≤ tt; fits = tt }
 
 -- ---- the kernels at their centre and next to it
 
 module _ (cpp : List Float) (k : Kernel2D) (w : KernelWithin cpp k) (some : 1 ≤ k .radius) where
-  centre-within : Within kernelExponent 1 (centreOf cpp k)
+  centre-within : Bounded kernelExponent 1 (centreOf cpp k)
   unfolding centreOf
   centre-within = w (k .radius) (k .radius) (omega arith) (omega arith)
 
-  value-within : (a : Adjacent) → Found a → Beyond (k .radius) (k .radius) (size k) (size k) a → Within kernelExponent 1 (valueOf cpp k a)
+  value-within : (a : Adjacent) → Found a → Beyond (k .radius) (k .radius) (size k) (size k) a → Bounded kernelExponent 1 (valueOf cpp k a)
   value-within (Pixel i j) f b = w i j (b .0 .under) (b .1 .under)
   value-within Outside f b = absurd f
 
-  beside-within : (code : ℕ) → code < 8 → Within kernelExponent 1 (besideOf cpp k code)
+  beside-within : (code : ℕ) → code < 8 → Bounded kernelExponent 1 (besideOf cpp k code)
   unfolding besideOf
   beside-within code h =
       value-within (neighbourOf code (k .radius) (k .radius) (size k) (size k)) (centre-found code (k .radius) h some)
       (near-by code (k .radius) (k .radius) (size k) (size k) (omega arith) (omega arith))
 
-  gap-within : (code : ℕ) → code < 8 → Within 11 2 (centreOf cpp k -f besideOf cpp k code)
+  gap-within : (code : ℕ) → code < 8 → Bounded 11 2 (centreOf cpp k -f besideOf cpp k code)
   gap-within code h = sub-within centre-within (beside-within code h) (lit< tt) (lit≤ tt)
 
 module _ (S : Shared) (f : Steady S) where
@@ -131,12 +131,12 @@ module _ (S : Shared) (f : Steady S) where
 
   -- ---- a pixel of a window, whose `cpe` has gathered k terms at most
 
-  module _ (W : Rect) (cpe : List Float) (indices : List ℕ) (k : ℕ) (few : k < countLimit) (w : AllWithin cpeExponent k cpe)
+  module _ (W : Rect) (cpe : List Float) (indices : List ℕ) (k : ℕ) (few : k < countLimit) (w : AllBounded cpeExponent k cpe)
       (cpe-room : length cpe ≡ 3 * area W) (indices-room : length indices ≡ area W) (named : Named indices (S .count)) where
     up-to : (k : ℕ) → k < countLimit → k * 2 ^ 25 ≤ 1 * 2 ^ 78
     up-to k h = omega arith
 
-    cell-within : (x y c : ℕ) → Inside W x y → c < 3 → Within 78 1 (cell nan 3 W cpe x y c)
+    cell-within : (x y c : ℕ) → Inside W x y → c < 3 → Bounded 78 1 (cell nan 3 W cpe x y c)
     unfolding cell
     cell-within x y c i h = wider 78 1 (up-to k few) (w (place 3 W x y c) (omega (arith, cpe-room, place-lt 3 W x y c i h)))
 
@@ -150,17 +150,17 @@ module _ (S : Shared) (f : Steady S) where
       here : Inside W x y
       here = held-inside (S .tiling) W x y h
 
-      toggle-within : (j : ℕ) → j < S .count → Within costExponent 1 (toggleCostTo S W cpe indices x y j)
+      toggle-within : (j : ℕ) → j < S .count → Bounded costExponent 1 (toggleCostTo S W cpe indices x y j)
       toggle-within j l = toggle-cost centres-within (change-within j _ l (index-lt x y here)) (cpe-at-within x y here)
 
-      swap-within : (code nx ny : ℕ) → code < 8 → partnerOf S W indices x y (indexAt W indices x y) code ≡ Pixel nx ny → Within costExponent 1 (swapCostWith S W cpe indices x y code nx ny)
+      swap-within : (code nx ny : ℕ) → code < 8 → partnerOf S W indices x y (indexAt W indices x y) code ≡ Pixel nx ny → Bounded costExponent 1 (swapCostWith S W cpe indices x y code nx ny)
       swap-within code nx ny l e =
           let p = partner-is S W indices x y (indexAt W indices x y) code nx ny e in
           let i = neighbour-inside (S .tiling) W code x y nx ny h (p .beside) .0 in
           swap-cost (gaps-within code l) (change-within _ _ (index-lt nx ny i) (index-lt x y here)) (cpe-at-within x y here) (cpe-at-within nx ny i)
 
       -- every move that the pixel may make
-      pub cost-within : (mv : Move) → Fair S W indices x y mv → Within costExponent 1 (costOf S W cpe indices x y mv)
+      pub cost-within : (mv : Move) → FairMove S W indices x y mv → Bounded costExponent 1 (costOf S W cpe indices x y mv)
       unfolding costOf
       cost-within Stay f = none-within
       cost-within (Toggle j) f = toggle-within j (f .named)
@@ -169,9 +169,9 @@ module _ (S : Shared) (f : Steady S) where
       -- ---- the best one
 
       abbrev Fine : Best → Type 0
-      Fine b = Within costExponent 1 (b .cost)
+      Fine b = Bounded costExponent 1 (b .cost)
 
-      better : (b : Best) (cost : Float) (mv : Move) → Fine b → Within costExponent 1 cost → Fine (betterOf b cost mv)
+      better : (b : Best) (cost : Float) (mv : Move) → Fine b → Bounded costExponent 1 cost → Fine (betterOf b cost mv)
       better b cost mv p q = go (lt cost (b .cost))
         where
           go : (t : Bool) → Fine (cond t (record { cost = cost; mv = mv }) b)
@@ -197,6 +197,6 @@ module _ (S : Shared) (f : Steady S) where
       unfolding swaps trySwap s
       swaps-fine b p = upTo-ind (λ i b. Fine b) _ 8 (λ code l b q. swap-fine code l _ refl b q) b p
 
-      pub best-within : Within costExponent 1 (evaluateOf S W cpe indices x y noMove .cost)
+      pub best-within : Bounded costExponent 1 (evaluateOf S W cpe indices x y noMove .cost)
       unfolding evaluateOf s
       best-within = swaps-fine _ (toggles-fine noMove none-within)

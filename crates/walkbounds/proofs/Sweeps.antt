@@ -20,10 +20,10 @@ use Rattle.sweep.specs.Sweep.{grow, addAt, first, past, sweepPixel, sweepRow, s
 use Rattle.search.specs.declared.Move.{Move}
 use Rattle.search.specs.declared.Move.the-variants.{Stay, Toggle, Swap}
 use Rattle.search.specs.Shared.{Shared, inkAt, indexAt, Named, Held}
-use Rattle.search.specs.Search.{Fair}
+use Rattle.search.specs.Search.{FairMove}
 use Rattle.search.proofs.Laws.{held-inside, neighbour-inside, partner-is, index-named}
 use Rattle.moves.specs.Moves.{swapKernels, movedCpe}
-use Rattle.bounds.specs.Bound.{Within, AllWithin, countLimit}
+use Rattle.bounds.specs.Bound.{Bounded, AllBounded, countLimit}
 use Rattle.bounds.proofs.Within.{add-within, mul-within, neg-within}
 use Rattle.bounds.proofs.Sums.{rise-all, set-within, fromTo-grown}
 use Rattle.inkbounds.specs.Inks.{ColourWithin}
@@ -32,11 +32,11 @@ use Rattle.walkbounds.specs.Terms.{Steady, sweepTerms, visitTerms}
 use Rattle.walkbounds.proofs.Costs.{change-within}
 
 abbrev Cells : ℕ → List Float → Type 0
-Cells k f = AllWithin cpeExponent k f
+Cells k f = AllBounded cpeExponent k f
 
 -- ---- one value grows
 
-grow-within : (k j : ℕ) (v : Float) (f : List Float) → k + 1 < countLimit → Within cpeExponent 1 v → Cells k f → Cells (k + 1) (grow j v f)
+grow-within : (k j : ℕ) (v : Float) (f : List Float) → k + 1 < countLimit → Bounded cpeExponent 1 v → Cells k f → Cells (k + 1) (grow j v f)
 unfolding grow
 grow-within k j v f K x w = set-within cpeExponent (k + 1) f j (getD f j nan +f v) (λ h. add-within (w j h) x K (lit≤ tt)) (rise-all cpeExponent k (k + 1) f (omega arith) w)
 
@@ -44,7 +44,7 @@ two-more : (k : ℕ) → k + 1 + 1 ≡ k + 2
 two-more k = omega arith
 
 -- one pixel
-add-at-within : (c : Channels) (a : YyCxCz) (v : Float) (j k : ℕ) (f : List Float) → ColourWithin errorExponent 1 a → Within 11 1 v → k + 2 < countLimit → Cells k f → Cells (k + 2) (addAt c a v j f)
+add-at-within : (c : Channels) (a : YyCxCz) (v : Float) (j k : ℕ) (f : List Float) → ColourWithin errorExponent 1 a → Bounded 11 1 v → k + 2 < countLimit → Cells k f → Cells (k + 2) (addAt c a v j f)
 unfolding addAt
 add-at-within Luminance a v j k f A x K w =
     rise-all cpeExponent (k + 1) (k + 2) (grow j (a .yy *f v) f) (omega arith) (grow-within k j (a .yy *f v) f (omega arith) (mul-within (A .yy) x (lit< tt) (lit≤ tt)) w)
@@ -97,7 +97,7 @@ module _ (S : Shared) (g : Steady S) (W : Rect) where
   neg-colour : {a : YyCxCz} → ColourWithin errorExponent 1 a → ColourWithin errorExponent 1 (negOf a)
   neg-colour a = record { yy = neg-within (a .yy); cx = neg-within (a .cx); cz = neg-within (a .cz) }
 
-  pub moved-within : (x y : ℕ) → Held (S .tiling) W x y → (mv : Move) (l : List ℕ) → Fair S W l x y mv → length l ≡ area W → Named l (S .count) →
+  pub moved-within : (x y : ℕ) → Held (S .tiling) W x y → (mv : Move) (l : List ℕ) → FairMove S W l x y mv → length l ≡ area W → Named l (S .count) →
       (m : ℕ) (f : List Float) → m + visitTerms < countLimit → Cells m f → Cells (m + visitTerms) (movedCpe S W x y mv l f)
   unfolding movedCpe
   moved-within x y h Stay l f room named m c z v = rise-all cpeExponent m (m + visitTerms) c (omega arith) v

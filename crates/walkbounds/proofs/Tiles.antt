@@ -21,7 +21,7 @@ use Rattle.moves.specs.declared.Progress.{Progress}
 use Rattle.moves.specs.Moves.{counted}
 use Rattle.tile.specs.Tile.{State, state, applied, visitOf, refineRow, refineTile, noProgress, Covers}
 use Rattle.tile.proofs.Keeps.{Sound, visit-sound, covers-held}
-use Rattle.bounds.specs.Bound.{Within, AllWithin, countLimit}
+use Rattle.bounds.specs.Bound.{Bounded, AllBounded, countLimit}
 use Rattle.bounds.proofs.Within.{zero-within, more, add-within, number}
 use Rattle.bounds.proofs.Sums.{rise-all, fromTo-grown}
 use Rattle.errorbounds.specs.Errors.{cpeExponent, costExponent}
@@ -41,8 +41,8 @@ module _ (S : Shared) (g : Steady S) (W : Rect) (i₀ : List ℕ) (k : ℕ) (few
   -- after m visits
   pub record Visited (m : ℕ) (s : State) : Type 0 where
     pub sound : Sound S W i₀ (3 * area W) s
-    pub cpe : AllWithin cpeExponent (k + m * visitTerms) (s .cpe)
-    pub delta : Within costExponent m (s .progress .delta)
+    pub cpe : AllBounded cpeExponent (k + m * visitTerms) (s .cpe)
+    pub delta : Bounded costExponent m (s .progress .delta)
 
   more-visits : (m n : ℕ) (s : State) → m ≤ n → Visited m s → Visited n s
   more-visits m n s h v = record {
@@ -53,7 +53,7 @@ module _ (S : Shared) (g : Steady S) (W : Rect) (i₀ : List ℕ) (k : ℕ) (few
 
   -- ---- one visit
 
-  counted-within : (m : ℕ) (mv : Move) (cost : Float) (p : Progress) → m + 1 < countLimit → Within costExponent m (p .delta) → Within costExponent 1 cost → Within costExponent (m + 1) (counted mv cost p .delta)
+  counted-within : (m : ℕ) (mv : Move) (cost : Float) (p : Progress) → m + 1 < countLimit → Bounded costExponent m (p .delta) → Bounded costExponent 1 cost → Bounded costExponent (m + 1) (counted mv cost p .delta)
   counted-within m Stay cost p h d c = more (m + 1) (omega arith) d
   counted-within m (Toggle j) cost p h d c = add-within d c h (lit≤ tt)
   counted-within m (Swap code) cost p h d c = add-within d c h (lit≤ tt)
@@ -65,13 +65,13 @@ module _ (S : Shared) (g : Steady S) (W : Rect) (i₀ : List ℕ) (k : ℕ) (few
     best : Best
     best = evaluateOf S W (s .cpe) (s .indices) x y noMove
 
-    cpe-moved : AllWithin cpeExponent (k + (m + 1) * visitTerms) (applied S W x y best s .cpe)
+    cpe-moved : AllBounded cpeExponent (k + (m + 1) * visitTerms) (applied S W x y best s .cpe)
     unfolding applied best
     cpe-moved =
         let e : k + m * visitTerms + visitTerms ≡ k + (m + 1) * visitTerms = omega arith in
         rw e at (moved-within S g W x y h (evaluateOf S W (s .cpe) (s .indices) x y noMove .mv) (s .indices) (evaluate-fair S W (s .cpe) (s .indices) x y) (v .sound .room) (v .sound .named) (k + m * visitTerms) (s .cpe) (omega (arith, few, l)) (v .cpe))
 
-    delta-moved : Within costExponent (m + 1) (applied S W x y best s .progress .delta)
+    delta-moved : Bounded costExponent (m + 1) (applied S W x y best s .progress .delta)
     unfolding applied best
     delta-moved =
         counted-within m (evaluateOf S W (s .cpe) (s .indices) x y noMove .mv) (evaluateOf S W (s .cpe) (s .indices) x y noMove .cost) (s .progress) (omega (arith, l)) (v .delta)
@@ -88,11 +88,11 @@ module _ (S : Shared) (g : Steady S) (W : Rect) (i₀ : List ℕ) (k : ℕ) (few
         still : Visited (m + 1) s
         still = more-visits m (m + 1) s (omega arith) v
 
-        go-cpe : (b : Bool) → AllWithin cpeExponent (k + (m + 1) * visitTerms) (cond b s (applied S W x y (evaluateOf S W (s .cpe) (s .indices) x y noMove) s) .cpe)
+        go-cpe : (b : Bool) → AllBounded cpeExponent (k + (m + 1) * visitTerms) (cond b s (applied S W x y (evaluateOf S W (s .cpe) (s .indices) x y noMove) s) .cpe)
         go-cpe true = still .cpe
         go-cpe false = cpe-moved
 
-        go-delta : (b : Bool) → Within costExponent (m + 1) (cond b s (applied S W x y (evaluateOf S W (s .cpe) (s .indices) x y noMove) s) .progress .delta)
+        go-delta : (b : Bool) → Bounded costExponent (m + 1) (cond b s (applied S W x y (evaluateOf S W (s .cpe) (s .indices) x y noMove) s) .progress .delta)
         go-delta true = still .delta
         go-delta false = delta-moved
 
@@ -140,5 +140,5 @@ module _ (S : Shared) (g : Steady S) (W : Rect) (i₀ : List ℕ) (k : ℕ) (few
 
   -- ---- from rest
 
-  pub at-rest : (cpe : List Float) (indices : List ℕ) → Sound S W i₀ (3 * area W) (state cpe indices noProgress) → AllWithin cpeExponent k cpe → Visited 0 (state cpe indices noProgress)
+  pub at-rest : (cpe : List Float) (indices : List ℕ) → Sound S W i₀ (3 * area W) (state cpe indices noProgress) → AllBounded cpeExponent k cpe → Visited 0 (state cpe indices noProgress)
   at-rest cpe indices s w = record { sound = s; cpe = rise-all cpeExponent k (k + 0 * visitTerms) cpe (omega arith) w; delta = zero-within costExponent }

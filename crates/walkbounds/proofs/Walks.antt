@@ -20,7 +20,7 @@ use Rattle.walk.specs.Walk.{Refined, refined, joined, walkTile, walkTry, walkTi
 use Rattle.walk.proofs.Laws.{SoundImage, image-covers, walkTile-sound}
 use Rattle.walk.proofs.Passes.{phase-ended}
 use Rattle.walk.proofs.Ends.{Going, Over, walk-stage}
-use Rattle.bounds.specs.Bound.{Within, AllWithin, countLimit}
+use Rattle.bounds.specs.Bound.{Bounded, AllBounded, countLimit}
 use Rattle.bounds.proofs.Within.{more, add-within}
 use Rattle.bounds.proofs.Sums.{rise-all, upTo-grown}
 use Rattle.errorbounds.specs.Errors.{cpeExponent, costExponent}
@@ -47,8 +47,8 @@ module _ (S : Shared) (g : Steady S) (i₀ : List ℕ) where
   -- after m tiles
   pub record Walked (m : ℕ) (r : Refined) : Type 0 where
     pub sound : SoundImage S i₀ (3 * area P) r
-    pub cpe : AllWithin cpeExponent (cellTerms m) (r .cpe)
-    pub error : Within costExponent (errorTerms m) (r .run .error)
+    pub cpe : AllBounded cpeExponent (cellTerms m) (r .cpe)
+    pub error : Bounded costExponent (errorTerms m) (r .run .error)
 
   pub more-tiles : (m n : ℕ) (r : Refined) → m ≤ n → Walked m r → Walked n r
   more-tiles m n r h w = record {
@@ -77,14 +77,14 @@ module _ (S : Shared) (g : Steady S) (i₀ : List ℕ) where
     pub tile-walked : Walked (m + 1) (walkTile S t r)
     tile-walked = record { sound = walkTile-sound S i₀ (3 * area P) t r ht (w .sound); cpe = cells; error = error }
       where
-        cells : AllWithin cpeExponent (cellTerms (m + 1)) (walkTile S t r .cpe)
+        cells : AllBounded cpeExponent (cellTerms (m + 1)) (walkTile S t r .cpe)
         cells = unfold walkTile in
             rise-all cpeExponent (cellTerms m + tileVisits * visitTerms) (cellTerms (m + 1)) (refineTile S P (tile (S .tiling) t) start .cpe) (omega arith) (done .cpe)
 
-        error : Within costExponent (errorTerms (m + 1)) (walkTile S t r .run .error)
+        error : Bounded costExponent (errorTerms (m + 1)) (walkTile S t r .run .error)
         error = unfold walkTile in
             let e : errorTerms m + tileVisits ≡ errorTerms (m + 1) = omega arith in
-            subst (λ (n : ℕ). Within costExponent n (joined (r .run) (refineTile S P (tile (S .tiling) t) start) .run .error)) e (add-within (w .error) (done .delta) (omega arith) (lit≤ tt))
+            subst (λ (n : ℕ). Bounded costExponent n (joined (r .run) (refineTile S P (tile (S .tiling) t) start) .run .error)) e (add-within (w .error) (done .delta) (omega arith) (lit≤ tt))
 
     pub tile-costs : (x y : ℕ) → Inside (tile (S .tiling) t) x y → Weighed S P x y (comesTo S P (tile (S .tiling) t) x y start)
     tile-costs x y i =

@@ -12,7 +12,7 @@ use Rattle.bounds.specs.Number.{Number}
 use Rattle.search.specs.declared.Move.{Move}
 use Rattle.search.specs.declared.Move.the-variants.{Stay, Toggle, Swap}
 use Rattle.search.specs.Shared.{Shared, inkAt, cpeAt, indexAt}
-use Rattle.search.specs.Search.{centres, gaps, toggleCost, swapCost, noMove, partnerOf, Fair}
+use Rattle.search.specs.Search.{centres, gaps, toggleCost, swapCost, noMove, partnerOf, FairMove}
 use Rattle.tile.specs.Tile.{State, visitOf, refineRow}
 
 -- a swap with the neighbour (nx, ny)
@@ -36,7 +36,7 @@ costOf S W cpe indices x y (Swap code) = swapCostOf S W cpe indices x y code (pa
 
 -- every cost that the visit of pixel (x, y) weighs is a number
 abbrev pub Weighed : Shared → Rect → ℕ → ℕ → State → Type 0
-Weighed S W x y s = (mv : Move) → Fair S W (s .indices) x y mv → Number (costOf S W (s .cpe) (s .indices) x y mv)
+Weighed S W x y s = (mv : Move) → FairMove S W (s .indices) x y mv → Number (costOf S W (s .cpe) (s .indices) x y mv)
 
 -- the state of a tile's walk as it comes to pixel (x, y) of the tile Q
 unfoldable pub comesTo : Shared → Rect → Rect → ℕ → ℕ → State → State

@@ -4,7 +4,7 @@ use mathlib.Core.Path.{_≡_}
 use lib.ListN.{length}
 use Rattle.tiling.specs.Tiling.{Limits}
 use Rattle.search.specs.Shared.{Shared}
-use Rattle.bounds.specs.Bound.{AllWithin}
+use Rattle.bounds.specs.Bound.{AllBounded}
 use Rattle.inkbounds.specs.Inks.{inkExponent}
 use Rattle.errorbounds.specs.Errors.{StoreWithin, fieldTerms}
 
@@ -48,6 +48,6 @@ pub record Steady (S : Shared) : Type 0 where
   pub limits : Limits (S .tiling)
   pub lum-least : 1 ≤ S .tiling .lum
   pub chroma-least : 1 ≤ S .tiling .chroma
-  pub inks : AllWithin inkExponent 1 (S .inks)
+  pub inks : AllBounded inkExponent 1 (S .inks)
   pub inks-room : length (S .inks) ≡ 3 * S .count
   pub store : StoreWithin (S .tiling) (S .cpp)

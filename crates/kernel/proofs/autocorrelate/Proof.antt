@@ -6,14 +6,14 @@ use borrow.Author.Needs.{needs}
 use lib.ListN.{length, length-set}
 use lib.Ieee.{nan}
 use Rattle.base.proofs.TableLaws.{filled, fill-none, fill-turn, fill-done}
-use Rattle.kernel.specs.Kernel.{side, values, correlationAt, autocorrelation}
+use Rattle.kernel.specs.Kernel.{kernelSide, values, correlationAt, autocorrelation}
 use Rattle.kernel.proofs.SquareLaws.{in-square}
 use Rattle.kernel.proofs.autocorrelate.Statement.{statement}
 use Rattle.kernel.proofs.autocorrelate.Tie as tie
 
 abbrev Inv-loop : tie.InvT-loop
 Inv-loop p r c₀ radius row k₀ k-end c k =
-    (k ≤ length c₀) × (k-end ≡ length c₀) × (length c ≡ length c₀) × (c ≡ filled k (λ k. correlationAt p r (k % side (2 * r)) (k / side (2 * r))) c₀)
+    (k ≤ length c₀) × (k-end ≡ length c₀) × (length c ≡ length c₀) × (c ≡ filled k (λ k. correlationAt p r (k % kernelSide (2 * r)) (k / kernelSide (2 * r))) c₀)
 
 abbrev μ-loop : tie.MeasureT-loop
 μ-loop p r c₀ radius row k₀ k-end c k = length c₀ - k
@@ -43,7 +43,7 @@ correlation-requires : tie.Need-correlation-requires Inv-loop μ-loop
 correlation-requires c κs =
     let start = c .before .before .before .before in
     let r = start .args .r in
-    let w = in-square (side (2 * r)) (c .before .loop .k) (omega arith) (inside _ _ _ (values (2 * r)) (c .loop-test .taken) (c .before .loop .inv .1) (start .pre .2)) in
+    let w = in-square (kernelSide (2 * r)) (c .before .loop .k) (omega arith) (inside _ _ _ (values (2 * r)) (c .loop-test .taken) (c .before .loop .inv .1) (start .pre .2)) in
     record { radius = start .pre .0; square = start .pre .1; column = omega (arith, w); row = omega (arith, w) }
 
 mul-c : tie.Need-mul-c Inv-loop μ-loop

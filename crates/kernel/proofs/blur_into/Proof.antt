@@ -3,7 +3,7 @@ use mathlib.Core.Path.{_≡_, ap, _∙_}
 use native.Mathlib.Omega.{arith}
 use borrow.Author.Needs.{needs}
 use lib.ListN.{length}
-use Rattle.kernel.specs.Kernel.{side, blurOf}
+use Rattle.kernel.specs.Kernel.{kernelSide, blurOf}
 use Rattle.kernel.proofs.blur_into.Statement.{statement}
 use Rattle.kernel.proofs.blur_into.Tie as tie
 
@@ -12,7 +12,7 @@ gaussian-line-requires c κs = search needs
 
 blur-from-requires : tie.Need-blur-from-requires
 blur-from-requires c κs =
-    let e : length (c .before .before .before .before .gaussian-line .last .1 .1 .0) ≡ side (c .before .before .before .before .before .before .before .before .args .r) = c .before .before .before .before .gaussian-line .kept .1 .1 .0 ∙ c .before .before .before .before .before .before .before .before .pre .1 in
+    let e : length (c .before .before .before .before .gaussian-line .last .1 .1 .0) ≡ kernelSide (c .before .before .before .before .before .before .before .before .args .r) = c .before .before .before .before .gaussian-line .kept .1 .1 .0 ∙ c .before .before .before .before .before .before .before .before .pre .1 in
     (omega (arith, e), omega (arith, e, c .before .before .before .before .before .before .before .before .pre .0), rw e (c .before .before .before .before .before .before .before .before .pre .2))
 
 same-length : tie.Need-same-length

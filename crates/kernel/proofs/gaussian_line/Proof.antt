@@ -7,7 +7,7 @@ use lib.Dec.{le→leb}
 use lib.ListN.{length, length-set}
 use lib.Ieee.{nan, inFloat}
 use Rattle.base.proofs.TableLaws.{filled, fill-none, fill-turn, fill-done}
-use Rattle.kernel.specs.Kernel.{side, gaussianAt, gaussianLine}
+use Rattle.kernel.specs.Kernel.{kernelSide, gaussianAt, gaussianLine}
 use Rattle.kernel.proofs.gaussian_line.Statement.{statement}
 use Rattle.kernel.proofs.gaussian_line.Tie as tie
 
@@ -52,7 +52,7 @@ same-length c = search needs
 
 returns : tie.Need-returns Inv-loop μ-loop
 unfolding gaussianLine
-returns c = fill-done _ (side (c .before .before .before .args .r)) _ _ _ (c .before .loop .inv .0) (omega arith) (omega arith) (c .before .loop .inv .3)
+returns c = fill-done _ (kernelSide (c .before .before .before .args .r)) _ _ _ (c .before .loop .inv .0) (omega arith) (omega arith) (c .before .loop .inv .3)
 
 pub gaussian-line-spec : {M : Type 1} → statement M
 gaussian-line-spec = tie.close (tie.spec Inv-loop μ-loop loop-holds int-to-float-d int-to-float-d-2 exp-requires mul-g slice-write-g add-i loop-less loop-again same-length returns)

@@ -6,7 +6,7 @@ use Prim.Native.Nat.{ℕ, zero, suc}
 use lib.IntN.{ℤ}
 use mir.Syntax.{w8}
 use mir.Val.{ofZ, toZ}
-use Rattle.neighbour.specs.Neighbour.{Small, offsetOf, shiftedOf, joined, placed, neighbourOf}
+use Rattle.neighbour.specs.Neighbour.{Small, offsetOf, shiftedOf, adjacentAt, adjacentBy, neighbourOf}
 use Rattle.neighbour.specs.declared.Offset.{Offset}
 use Rattle.neighbour.specs.declared.Offset.the-variants.{By, Nothing}
 use Rattle.neighbour.specs.declared.Shift.the-variants.{To, Out}
