@@ -34,7 +34,7 @@ use Rattle.job.specs.Take.{Taken, takeTests, takeOf}
 use Rattle.job.specs.Work.{copyTest, workTests, workOf}
 use Rattle.job.specs.PutBack.{countTest, putBackTests, withProgress, putBackOf}
 use Rattle.job.specs.Close.{firstOf, isMissing, closeTests, withDeltas, released, nextRecord, nextWith, closeOf}
-use Rattle.job.specs.Boundary.{OpenedRun, openRun, takeRun, workRun, wordsAfter, putBackRun, closeRun}
+use Rattle.job.specs.Boundary.{OpenedRun, openRun, onRun, takeRun, workRun, wordsAfter, putBackOver, putBackRun, closedOver, closeRun}
 
 -- ---- the calls on what a host holds of a job
 
@@ -139,11 +139,11 @@ unfolding twoPixels opened start first openRun runTest openOf openTestsOf firstR
 opens = rw (cpe-is, error-is)
 
 pass-one : aPass first ≡ second
-unfolding twoPixels opened taken takeOut made bringBack closed aPass first second openRun runTest openOf openTestsOf firstRecord encode wordsWith isAccepted judge openTests openRunTests runTests inputTests imageTests inkTests eyeTests firstUnnamed pixelCount inkCount tilingOf kernelRadius blurRadius ceil sigmaPx toDegrees isFinitePositive tiles rows columns side margin cpeOf cppOf sceneOf inksOf inkValues inkValue ink channel errorOf initialError channelError errorTerm fieldOf fieldValue fieldAt channelKernel correlateAt correlateRow correlateTerm errorAt targetAt colourAt halftoneAt yycxcz linear srgbToLinear pinnedAt kernelAt eyeKernels overwrite kernelOf autocorrelation correlationAt rowSum gaussianBlur blurOf blurAt sumOf gaussianLine gaussianAt expOf squared series upTo fromTo table add sub mul div neg lt round ofBits ofInt toBits takeRun takeOf takeTests copyOf isDue isWaiting workRun workOf workTests copyTest jobShared refinedCopy putBackRun putBackOf putBackTests countTest withProgress writtenBack isOut isBack closeRun closeOf closeTests wordsTests wordsAfter rewritten wordOver decode recordTests radiusFits pixelsOf firstOf isMissing nextRecord nextWith withDeltas released image tile region tileX tileY inPhase crop paste cell put place columnAt rowAt valueAt inside area width height refineTile refineRow visitOf applied evaluateOf swaps trySwap partnerOf toggles tryToggle centres centreOf gaps besideOf toggleCost swapCost movedIndices movedCpe addKernels sweepOf sweepRow sweepPixel addAt grow isNan nanBits
+unfolding twoPixels opened taken takeOut made bringBack closed aPass first second openRun runTest openOf openTestsOf firstRecord encode wordsWith isAccepted judge openTests openRunTests runTests inputTests imageTests inkTests eyeTests firstUnnamed pixelCount inkCount tilingOf kernelRadius blurRadius ceil sigmaPx toDegrees isFinitePositive tiles rows columns side margin cpeOf cppOf sceneOf inksOf inkValues inkValue ink channel errorOf initialError channelError errorTerm fieldOf fieldValue fieldAt channelKernel correlateAt correlateRow correlateTerm errorAt targetAt colourAt halftoneAt yycxcz linear srgbToLinear pinnedAt kernelAt eyeKernels overwrite kernelOf autocorrelation correlationAt rowSum gaussianBlur blurOf blurAt sumOf gaussianLine gaussianAt expOf squared series upTo fromTo table add sub mul div neg lt round ofBits ofInt toBits takeRun takeOf takeTests copyOf isDue isWaiting workRun workOf workTests copyTest jobShared refinedCopy putBackRun putBackOf putBackTests countTest withProgress writtenBack isOut isBack closeRun closeOf closeTests wordsTests wordsAfter rewritten wordOver decode recordTests radiusFits pixelsOf firstOf isMissing nextRecord nextWith withDeltas released image tile region tileX tileY inPhase crop paste cell put place columnAt rowAt valueAt inside area width height refineTile refineRow visitOf applied evaluateOf swaps trySwap partnerOf toggles tryToggle centres centreOf gaps besideOf toggleCost swapCost movedIndices movedCpe addKernels sweepOf sweepRow sweepPixel addAt grow isNan nanBits onRun putBackOver closedOver
 pass-one = refl
 
 pass-two : aPass second ≡ last
-unfolding twoPixels opened taken takeOut made bringBack closed aPass second last openRun runTest openOf openTestsOf firstRecord encode wordsWith isAccepted judge openTests openRunTests runTests inputTests imageTests inkTests eyeTests firstUnnamed pixelCount inkCount tilingOf kernelRadius blurRadius ceil sigmaPx toDegrees isFinitePositive tiles rows columns side margin cpeOf cppOf sceneOf inksOf inkValues inkValue ink channel errorOf initialError channelError errorTerm fieldOf fieldValue fieldAt channelKernel correlateAt correlateRow correlateTerm errorAt targetAt colourAt halftoneAt yycxcz linear srgbToLinear pinnedAt kernelAt eyeKernels overwrite kernelOf autocorrelation correlationAt rowSum gaussianBlur blurOf blurAt sumOf gaussianLine gaussianAt expOf squared series upTo fromTo table add sub mul div neg lt round ofBits ofInt toBits takeRun takeOf takeTests copyOf isDue isWaiting workRun workOf workTests copyTest jobShared refinedCopy putBackRun putBackOf putBackTests countTest withProgress writtenBack isOut isBack closeRun closeOf closeTests wordsTests wordsAfter rewritten wordOver decode recordTests radiusFits pixelsOf firstOf isMissing nextRecord nextWith withDeltas released image tile region tileX tileY inPhase crop paste cell put place columnAt rowAt valueAt inside area width height refineTile refineRow visitOf applied evaluateOf swaps trySwap partnerOf toggles tryToggle centres centreOf gaps besideOf toggleCost swapCost movedIndices movedCpe addKernels sweepOf sweepRow sweepPixel addAt grow isNan nanBits
+unfolding twoPixels opened taken takeOut made bringBack closed aPass second last openRun runTest openOf openTestsOf firstRecord encode wordsWith isAccepted judge openTests openRunTests runTests inputTests imageTests inkTests eyeTests firstUnnamed pixelCount inkCount tilingOf kernelRadius blurRadius ceil sigmaPx toDegrees isFinitePositive tiles rows columns side margin cpeOf cppOf sceneOf inksOf inkValues inkValue ink channel errorOf initialError channelError errorTerm fieldOf fieldValue fieldAt channelKernel correlateAt correlateRow correlateTerm errorAt targetAt colourAt halftoneAt yycxcz linear srgbToLinear pinnedAt kernelAt eyeKernels overwrite kernelOf autocorrelation correlationAt rowSum gaussianBlur blurOf blurAt sumOf gaussianLine gaussianAt expOf squared series upTo fromTo table add sub mul div neg lt round ofBits ofInt toBits takeRun takeOf takeTests copyOf isDue isWaiting workRun workOf workTests copyTest jobShared refinedCopy putBackRun putBackOf putBackTests countTest withProgress writtenBack isOut isBack closeRun closeOf closeTests wordsTests wordsAfter rewritten wordOver decode recordTests radiusFits pixelsOf firstOf isMissing nextRecord nextWith withDeltas released image tile region tileX tileY inPhase crop paste cell put place columnAt rowAt valueAt inside area width height refineTile refineRow visitOf applied evaluateOf swaps trySwap partnerOf toggles tryToggle centres centreOf gaps besideOf toggleCost swapCost movedIndices movedCpe addKernels sweepOf sweepRow sweepPixel addAt grow isNan nanBits onRun putBackOver closedOver
 pass-two = refl
 
 -- 'indices 0 1', 'passes 2', 'accepted 1 0'
@@ -183,5 +183,5 @@ descending : closed (bringBack 0 (made mask handKernels inks 0 67 strip) (bringB
   states = 0 ∷ 0 ∷ 0 ∷ [];
   deltas = f64 0xbff0000000000000 ∷ nan ∷ f64 0xc33fffffffffffff ∷ [];
 }
-unfolding strip mask handKernels inks oneOut taken takeOut made bringBack closed runTest judge isAccepted firstUnnamed tiles rows columns side margin pinnedAt kernelAt wordsWith upTo fromTo table add sub mul div neg lt round ofBits toBits takeRun takeOf takeTests copyOf isDue isWaiting workRun workOf workTests copyTest jobShared refinedCopy putBackRun putBackOf putBackTests countTest withProgress writtenBack isOut isBack closeRun closeOf closeTests wordsTests wordsAfter rewritten wordOver decode recordTests radiusFits pixelsOf firstOf isMissing nextRecord nextWith withDeltas released image tile region tileX tileY inPhase crop paste cell put place columnAt rowAt valueAt inside area width height refineTile refineRow visitOf applied evaluateOf swaps trySwap partnerOf toggles tryToggle centres centreOf gaps besideOf toggleCost swapCost movedIndices movedCpe addKernels sweepOf sweepRow sweepPixel addAt grow isNan nanBits
+unfolding strip mask handKernels inks oneOut taken takeOut made bringBack closed runTest judge isAccepted firstUnnamed tiles rows columns side margin pinnedAt kernelAt wordsWith upTo fromTo table add sub mul div neg lt round ofBits toBits takeRun takeOf takeTests copyOf isDue isWaiting workRun workOf workTests copyTest jobShared refinedCopy putBackRun putBackOf putBackTests countTest withProgress writtenBack isOut isBack closeRun closeOf closeTests wordsTests wordsAfter rewritten wordOver decode recordTests radiusFits pixelsOf firstOf isMissing nextRecord nextWith withDeltas released image tile region tileX tileY inPhase crop paste cell put place columnAt rowAt valueAt inside area width height refineTile refineRow visitOf applied evaluateOf swaps trySwap partnerOf toggles tryToggle centres centreOf gaps besideOf toggleCost swapCost movedIndices movedCpe addKernels sweepOf sweepRow sweepPixel addAt grow isNan nanBits onRun putBackOver closedOver
 descending = refl
