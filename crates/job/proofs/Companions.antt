@@ -58,7 +58,7 @@ as-refined words O ok m J s f =
     let passes = refine-valid-iff (O .input) (O .passes) (length (O .cpe)) (length (O .cpp)) (length (O .counts)) (length (O .inks)) .1 (valid O (opens words O ok) .refine) in
     let front : take (rec J .done) (phases O m .counts ++ drop (0 + length (phases O m .counts)) (O .counts)) ≡ phases O m .counts = rw (s .done) (take-append-seam _ _) in
     rw (passes, w) (record {
-      accepts = (refl, refl);
+      accepts = refl;
       indices = sym (s .indices);
       cpe = sym (s .cpe);
       passes = sym (s .done);

@@ -14,7 +14,7 @@ use Rattle.base.specs.Grid.{area}
 use Rattle.base.specs.Loop.{upTo}
 use Rattle.base.specs.Refusal.{accepted}
 use Rattle.tiling.specs.Tiling.{tiles, phaseOf, tile}
-use Rattle.refine.specs.Refine.{Refinement, refineOf}
+use Rattle.refine.specs.Refine.{Refinement, refineStatus, refineOf}
 use Rattle.job.specs.declared.JobRecord.{JobRecord}
 use Rattle.job.specs.Record.{pixelsOf, stored}
 use Rattle.job.specs.Words.{encode, decode, wordOver, rewritten}
@@ -82,7 +82,7 @@ Ends = (O : Opening) → phases O (4 * O .passes) .ended ≡ true
 
 -- RUN ONE IS `dbs_refine`: a job that the open or a close left finished has what refining the same input leaves
 pub record LikeRefined (R : Refinement) (J : Job) : Type 0 where
-  pub accepts : (R .stats .number ≡ 0) × (R .stats .place ≡ 0)
+  pub accepts : refineStatus R ≡ accepted
   pub indices : R .indices ≡ J .image .indices
   pub cpe : R .cpe ≡ J .image .cpe
   pub passes : R .stats .passes ≡ rec J .done

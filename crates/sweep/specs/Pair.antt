@@ -1,3 +1,4 @@
+-- A SHAPE FOR SPEED: nothing that a reader has to believe.
 -- Two kernels added at once, as a swap asks for: where both reach, each pixel grows by the one and then by the other; then what the
 -- one reaches alone, then the other. That this is the one added whole and then the other is `pair-is` of proofs/PairPoint.antt.
 use mathlib.Core.Path.{_≡_}
