@@ -10,7 +10,7 @@ use Rattle.base.specs.declared.Status.{Status}
 use Rattle.base.specs.F64.{f0}
 use Rattle.base.specs.Refusal.{judge, accepted}
 use Rattle.base.proofs.Bounds.{image-product}
-use Rattle.base.proofs.JudgeLaws.{early, goes-on}
+use Rattle.input.proofs.OneByOne.{early, goes-on}
 use Rattle.eye.specs.declared.Eye.{Eye}
 use Rattle.tiling.specs.declared.Tiling.{Tiling}
 use Rattle.tiling.specs.Tiling.{Limits, tiles}

@@ -1,7 +1,7 @@
 -- `check_buffers` meets its contract: the tests are made one by one. Assumes nothing.
 use native.Mathlib.Omega.{arith}
 use Rattle.base.proofs.RefusalLaws.{Numbered}
-use Rattle.base.proofs.JudgeLaws.{one-by-one}
+use Rattle.input.proofs.OneByOne.{one-by-one}
 use borrow.Author.Needs.{needs}
 use Rattle.close.proofs.check_buffers.Statement.{statement}
 use Rattle.close.proofs.check_buffers.Tie as tie

@@ -8,7 +8,8 @@ use lib.ListN.{length}
 use Rattle.base.specs.declared.Status.{Status}
 use Rattle.base.specs.Refusal.{judge, test, Passes}
 use Rattle.base.proofs.RefusalLaws.{Numbered}
-use Rattle.base.proofs.JudgeLaws.{early, goes-on, passes-of-zero}
+use Rattle.base.proofs.JudgeLaws.{passes-of-zero}
+use Rattle.input.proofs.OneByOne.{early, goes-on}
 use Rattle.tiling.specs.Tiling.{tiles}
 use Rattle.input.specs.Input.{lengthTest}
 use Rattle.job.specs.declared.JobRecord.{JobRecord}

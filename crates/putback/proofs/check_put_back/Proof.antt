@@ -6,7 +6,7 @@ use mathlib.Core.List.{[], _∷_}
 use lib.ListN.{length}
 use Rattle.base.specs.Refusal.{judge}
 use Rattle.base.proofs.RefusalLaws.{Numbered}
-use Rattle.base.proofs.JudgeLaws.{also, early, goes-on}
+use Rattle.input.proofs.OneByOne.{also, early, goes-on}
 use Rattle.input.specs.Input.{lengthTest}
 use Rattle.job.specs.Record.{pixelsOf, recordTests, isOut}
 use Rattle.job.specs.PutBack.{countTest, putBackTests}

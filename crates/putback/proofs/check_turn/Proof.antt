@@ -4,7 +4,7 @@ use mathlib.Core.Path.{_≡_, ap, _∙_}
 use mathlib.Core.List.{[], _∷_}
 use Rattle.base.specs.Refusal.{test, judge}
 use Rattle.base.proofs.RefusalLaws.{Numbered}
-use Rattle.base.proofs.JudgeLaws.{also}
+use Rattle.input.proofs.OneByOne.{also}
 use Rattle.job.specs.PutBack.{countTest}
 use Rattle.records.proofs.RecordLaws.{limits-of}
 use borrow.Author.Needs.{needs}

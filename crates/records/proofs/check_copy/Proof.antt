@@ -1,7 +1,7 @@
 -- `check_copy` meets its contract: the tests are made one by one. Assumes nothing.
 use native.Mathlib.Omega.{arith}
 use Rattle.base.proofs.RefusalLaws.{Numbered}
-use Rattle.base.proofs.JudgeLaws.{one-by-one}
+use Rattle.input.proofs.OneByOne.{one-by-one}
 use Rattle.tiling.proofs.Sizes.{region-area-limit}
 use borrow.Author.Needs.{needs}
 use Rattle.records.proofs.check_copy.Statement.{statement}

@@ -2,7 +2,7 @@
 use native.Mathlib.Omega.{arith}
 use Rattle.base.proofs.Bounds.{image-product}
 use Rattle.base.proofs.RefusalLaws.{Numbered}
-use Rattle.base.proofs.JudgeLaws.{one-by-one}
+use Rattle.input.proofs.OneByOne.{one-by-one}
 use borrow.Author.Needs.{needs}
 use Rattle.records.proofs.check_image.Statement.{statement}
 use Rattle.records.proofs.check_image.Tie as tie

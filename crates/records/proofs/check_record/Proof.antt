@@ -9,7 +9,8 @@ use Rattle.base.specs.declared.Status.{Status}
 use Rattle.base.specs.Refusal.{test, judge, Passes}
 use Rattle.base.proofs.Bounds.{image-product}
 use Rattle.base.proofs.RefusalLaws.{Numbered}
-use Rattle.base.proofs.JudgeLaws.{also, early, goes-on, passes-of-zero}
+use Rattle.base.proofs.JudgeLaws.{passes-of-zero}
+use Rattle.input.proofs.OneByOne.{also, early, goes-on}
 use Rattle.input.proofs.Limits.{size-iff}
 use Rattle.job.specs.Record.{recordTests, pixelsOf}
 use borrow.Author.Needs.{needs}

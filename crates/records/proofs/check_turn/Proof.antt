@@ -1,7 +1,7 @@
 -- `check_turn` meets its contract: the tests are made one by one. Assumes nothing.
 use native.Mathlib.Omega.{arith}
 use Rattle.base.proofs.RefusalLaws.{Numbered}
-use Rattle.base.proofs.JudgeLaws.{one-by-one}
+use Rattle.input.proofs.OneByOne.{one-by-one}
 use borrow.Author.Needs.{needs}
 use Rattle.records.proofs.check_turn.Statement.{statement}
 use Rattle.records.proofs.check_turn.Tie as tie

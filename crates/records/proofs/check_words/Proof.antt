@@ -6,7 +6,8 @@ use lib.ListN.{length}
 use Rattle.base.specs.declared.Status.{Status}
 use Rattle.base.specs.Refusal.{Passes}
 use Rattle.base.proofs.RefusalLaws.{Numbered}
-use Rattle.base.proofs.JudgeLaws.{early, goes-on, passes-of-zero}
+use Rattle.base.proofs.JudgeLaws.{passes-of-zero}
+use Rattle.input.proofs.OneByOne.{early, goes-on}
 use Rattle.input.proofs.Limits.{length-iff}
 use Rattle.job.specs.Words.{runTest, wordsTests}
 use borrow.Author.Needs.{needs}

@@ -5,7 +5,7 @@ use mathlib.Core.Path.{_≡_, ap}
 use mathlib.Core.List.{[], _∷_}
 use lib.ListN.{length}
 use Rattle.base.proofs.RefusalLaws.{Numbered}
-use Rattle.base.proofs.JudgeLaws.{early, goes-on, then-one-by-one}
+use Rattle.input.proofs.OneByOne.{early, goes-on, then-one-by-one}
 use Rattle.job.specs.Record.{pixelsOf, recordTests, isWaiting}
 use Rattle.job.specs.Take.{takeTests}
 use Rattle.records.proofs.RecordLaws.{record-numbered, record-limits, turn-tile, states-length}

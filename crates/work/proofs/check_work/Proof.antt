@@ -8,7 +8,8 @@ use borrow.Author.Tests.{ltb-true, not-false}
 use Rattle.base.specs.declared.Status.{Status}
 use Rattle.base.specs.Refusal.{test, judge, Passes}
 use Rattle.base.proofs.RefusalLaws.{Numbered}
-use Rattle.base.proofs.JudgeLaws.{also, early, goes-on, passes-of-zero}
+use Rattle.base.proofs.JudgeLaws.{passes-of-zero}
+use Rattle.input.proofs.OneByOne.{also, early, goes-on}
 use Rattle.tiling.specs.Tiling.{tiles}
 use Rattle.job.specs.Record.{pixelsOf, recordTests}
 use Rattle.job.specs.Work.{workTests}
