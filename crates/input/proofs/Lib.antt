@@ -2,6 +2,5 @@ pub mod FirstUnnamed
 pub mod Limits
 mod EyeValidity
 pub mod InputLaws
-pub mod OneByOne
 pub mod Validity
 pub mod RowsOf

@@ -6,10 +6,7 @@ use base::Status;
 use eye::DbsParams;
 use eye::Eye;
 ghost use mathlib.Core.Path.{_≡_};
-ghost use mathlib.Core.List.{[], _∷_};
-ghost use mathlib.Core.Bool.{cond};
-ghost use lib.Dec.{eqb};
-ghost use Rattle.base.specs.Refusal.{test, judge, accepted, next, judgeFrom};
+ghost use Rattle.base.specs.Refusal.{judge, accepted, next, judgeFrom};
 ghost use Rattle.input.specs.Input.{isWithin, sizeFits, maskFits, paletteFits, firstUnnamed, imageTests, inkTests, input, checkedOf, lengthTest, runTests, refineRunTests, openRunTests};
 
 // The largest width and height.
@@ -21,29 +18,6 @@ const MAX_PASSES: u64 = 1000;
 
 // Values of both kernels: 2 x 65 x 65.
 const CPP_LEN: usize = 8450;
-
-// One test.
-pub fn refuse_if(fails: bool, number: u64, place: u64) -> Status
-    ensures { λ r. ⌜ r ≡ judge (test fails number place ∷ []) ⌝ }
-{
-    if fails {
-        return Status { number, place };
-    }
-    Status {
-        number: 0,
-        place: 0,
-    }
-}
-
-// Of two judgements the first that refuses.
-pub fn first_refusal(first: Status, second: Status) -> Status
-    ensures { λ r. ⌜ r ≡ cond (eqb (first .number) 0) second first ⌝ }
-{
-    if first.number == 0 {
-        return second;
-    }
-    first
-}
 
 pub fn is_within(low: u64, x: u64, high: u64) -> bool
     ensures { λ r. ⌜ r ≡ isWithin low x high ⌝ }
@@ -144,13 +118,6 @@ pub fn check_input(
     );
     let inks = check_inks(image, palette.len(), indices);
     eye::check_eye(inks, params)
-}
-
-// A line of refusal 11.
-pub fn check_length(buffer: u64, len: usize, wanted: usize) -> Status
-    ensures { λ r. ⌜ r ≡ judge (lengthTest buffer len wanted ∷ []) ⌝ }
-{
-    refuse_if(len != wanted, 11, buffer)
 }
 
 // The next line of refusal 11.

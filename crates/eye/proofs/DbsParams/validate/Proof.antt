@@ -1,10 +1,9 @@
 -- `validate` meets its contract: no test comes before the eye's. Assumes nothing.
-use mathlib.Core.Path.{sym, ap, _∙_}
+use mathlib.Core.Path.{_∙_}
 use native.Mathlib.Omega.{arith}
-use Rattle.base.specs.Refusal.{judgeFrom}
 use Rattle.base.proofs.RefusalLaws.{Numbered}
 use Rattle.base.proofs.JudgeLaws.{judge-from}
-use Rattle.eye.specs.Eye.{eyeTests, withRadii, eyeOf}
+use Rattle.eye.specs.Eye.{eyeTests, eyeOf}
 use borrow.Author.Needs.{needs}
 use Rattle.eye.proofs.DbsParams.validate.Statement.{statement}
 use Rattle.eye.proofs.DbsParams.validate.Tie as tie
