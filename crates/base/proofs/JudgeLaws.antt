@@ -1,45 +1,79 @@
--- `judge` of one list of tests and then another is the first refusal of the two, by induction on the first list. Assumes nothing.
+-- `judge` of one list of tests and then another is the first refusal of the two, and tests made one after the other are judged as `judge` says. By
+-- induction on the lists. Assumes nothing.
 use Prim.Native.Nat.{ℕ, _<_}
 use mathlib.Core.Path.{_≡_, refl, sym, ap, _∙_}
 use mathlib.Core.Logic.{_↔_}
-use mathlib.Core.Bool.{Bool, true, false}
+use mathlib.Core.Bool.{Bool, true, false, cond}
 use mathlib.Core.List.{List, [], _∷_, _++_}
 use native.Mathlib.Omega.{arith}
-use borrow.Author.Tests.{eq-eqb, ne-eqb}
+use borrow.Author.Tests.{eq-eqb, ne-eqb, eqb-true, eqb-false}
+use lib.Dec.{eqb}
 use Rattle.base.specs.declared.Status.{Status}
-use Rattle.base.specs.Refusal.{Test, judge, accepted, firstRefusal, Passes}
+use Rattle.base.specs.Refusal.{Test, judge, accepted, status, next, judgeFrom, Passes}
 use Rattle.base.proofs.RefusalLaws.{Numbered, judge-none, judge-pass, judge-fail, accepted-of, passes-of}
 
 positive-ne : (n : ℕ) → 0 < n → n ≡ 0 → ⊥
 positive-ne n h e = omega arith
 
-pub judge-append : (xs ys : List Test) → Numbered xs → judge (xs ++ ys) ≡ firstRefusal (judge xs) (judge ys)
+pub judge-append : (xs ys : List Test) → Numbered xs → judge (xs ++ ys) ≡ cond (eqb (judge xs .number) 0) (judge ys) (judge xs)
 unfolding Numbered
 judge-append [] ys n = unfold judge in refl
 judge-append (t ∷ ts) ys n = go (t .fails) refl (judge-append ts ys (n .1))
   where
-    go : (b : Bool) → t .fails ≡ b → judge (ts ++ ys) ≡ firstRefusal (judge ts) (judge ys) → judge (t ∷ (ts ++ ys)) ≡ firstRefusal (judge (t ∷ ts)) (judge ys)
+    go : (b : Bool) → t .fails ≡ b → judge (ts ++ ys) ≡ cond (eqb (judge ts .number) 0) (judge ys) (judge ts) → judge (t ∷ (ts ++ ys)) ≡ cond (eqb (judge (t ∷ ts) .number) 0) (judge ys) (judge (t ∷ ts))
     go true f rest = rw (judge-fail t (ts ++ ys) f, judge-fail t ts f, ne-eqb (t .number) 0 (positive-ne (t .number) (n .0)))
     go false f rest = rw (judge-pass t (ts ++ ys) f, judge-pass t ts f) rest
 
--- the tests of a list one by one, as code makes them
-abbrev pub oneByOne : List Test → Status
-oneByOne [] = accepted
-oneByOne (t ∷ []) = judge (t ∷ [])
-oneByOne (t ∷ u ∷ ts) = firstRefusal (judge (t ∷ [])) (oneByOne (u ∷ ts))
+-- ---- tests one after the other, as code makes them
 
-pub one-by-one : (ts : List Test) → Numbered ts → oneByOne ts ≡ judge ts
+next-refused : (s : Status) (t : Test) → (s .number ≡ 0 → ⊥) → next s t ≡ s
+unfolding next
+next-refused s t f = rw (ne-eqb (s .number) 0 f)
+
+next-pass : (s : Status) (t : Test) → t .fails ≡ false → next s t ≡ s
+unfolding next
+next-pass s t e = go (eqb (s .number) 0)
+  where
+    go : (b : Bool) → cond b (cond (t .fails) (status (t .number) (t .place)) s) s ≡ s
+    go true = rw e
+    go false = refl
+
+next-fail : (s : Status) (t : Test) → s .number ≡ 0 → t .fails ≡ true → next s t ≡ status (t .number) (t .place)
+unfolding next
+next-fail s t z e = rw (eq-eqb (s .number) 0 z, e)
+
+-- a refusal stays
+pub stays : (s : Status) (ts : List Test) → (s .number ≡ 0 → ⊥) → s ≡ judgeFrom s ts
+stays s [] f = refl
+stays s (t ∷ ts) f = rw (next-refused s t f) (stays s ts f)
+
+pub judge-from : (ts : List Test) → Numbered ts → judgeFrom accepted ts ≡ judge ts
 unfolding Numbered
-one-by-one [] n = sym judge-none
-one-by-one (t ∷ []) n = refl
-one-by-one (t ∷ u ∷ ts) n = ap (firstRefusal (judge (t ∷ []))) (one-by-one (u ∷ ts) (n .1)) ∙ sym (judge-append (t ∷ []) (u ∷ ts) (n .0, tt))
+judge-from [] n = sym judge-none
+judge-from (t ∷ ts) n = go (t .fails) refl (judge-from ts (n .1))
+  where
+    go : (b : Bool) → t .fails ≡ b → judgeFrom accepted ts ≡ judge ts → judgeFrom (next accepted t) ts ≡ judge (t ∷ ts)
+    go true f rest = rw (next-fail accepted t refl f, judge-fail t ts f) (sym (stays (status (t .number) (t .place)) ts (positive-ne (t .number) (n .0))))
+    go false f rest = rw (next-pass accepted t f, judge-pass t ts f) rest
 
--- one list of tests and then another, as code judges them
-pub also : (xs ys : List Test) {s t : Status} → Numbered xs → s ≡ judge xs → t ≡ judge ys → firstRefusal s t ≡ judge (xs ++ ys)
-also xs ys n p q = rw (p, q) (sym (judge-append xs ys n))
+pub from-append : (s : Status) (xs ys : List Test) → judgeFrom (judgeFrom s xs) ys ≡ judgeFrom s (xs ++ ys)
+from-append s [] ys = refl
+from-append s (x ∷ xs) ys = from-append (next s x) xs ys
 
-pub then-one-by-one : (xs ys : List Test) → Numbered xs → Numbered ys → firstRefusal (judge xs) (oneByOne ys) ≡ judge (xs ++ ys)
-then-one-by-one xs ys n m = ap (firstRefusal (judge xs)) (one-by-one ys m) ∙ sym (judge-append xs ys n)
+-- what code has made step by step
+pub by-steps : (ts : List Test) {s : Status} → Numbered ts → s ≡ judgeFrom accepted ts → s ≡ judge ts
+by-steps ts n e = e ∙ judge-from ts n
+
+-- the number 0 means that none has failed, before or now
+pub zero-from : (s : Status) (ts : List Test) → Numbered ts → judgeFrom s ts .number ≡ 0 → (s .number ≡ 0) × Passes ts
+unfolding Numbered Passes
+zero-from s [] n z = (z, tt)
+zero-from s (t ∷ ts) n z = go (eqb (s .number) 0) refl (t .fails) refl (zero-from (next s t) ts (n .1) z)
+  where
+    go : (a : Bool) → eqb (s .number) 0 ≡ a → (b : Bool) → t .fails ≡ b → (next s t .number ≡ 0) × Passes ts → (s .number ≡ 0) × ((t .fails ≡ false) × Passes ts)
+    go a e false f rest = (ap (λ (u : Status). u .number) (sym (next-pass s t f)) ∙ rest .0, (f, rest .1))
+    go true e true f rest = absurd (positive-ne (t .number) (n .0) (ap (λ (u : Status). u .number) (sym (next-fail s t (eqb-true (s .number) 0 e) f)) ∙ rest .0))
+    go false e true f rest = absurd (eqb-false (s .number) 0 e (ap (λ (u : Status). u .number) (sym (next-refused s t (eqb-false (s .number) 0 e))) ∙ rest .0))
 
 -- ---- accepted
 
@@ -65,12 +99,3 @@ passes-of-zero (t ∷ ts) n e = go (t .fails) refl (passes-of-zero ts (n .1))
 
 pub judge-zero : (ts : List Test) → Numbered ts → judge ts .number ≡ 0 → judge ts ≡ accepted
 judge-zero ts n e = accepted-of ts (passes-of-zero ts n e)
-
--- ---- a call that answers early, where its first tests refuse, and goes on where they do not
-
-module _ (xs ys : List Test) (n : Numbered xs) {s : Status} (e : s ≡ judge xs) where
-  pub early : (s .number ≡ 0 → ⊥) → s ≡ judge (xs ++ ys)
-  early f = sym (judge-append xs ys n ∙ rw (sym e, ne-eqb (s .number) 0 f))
-
-  pub goes-on : s .number ≡ 0 → {u : Status} → u ≡ judge ys → u ≡ judge (xs ++ ys)
-  goes-on z q = q ∙ sym (judge-append xs ys n ∙ rw (sym e, eq-eqb (s .number) 0 z))

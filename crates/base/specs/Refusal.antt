@@ -29,9 +29,13 @@ unfoldable pub judge : List Test → Status
 judge [] = accepted
 judge (t ∷ ts) = let rest = judge ts in cond (t .fails) (status (t .number) (t .place)) rest
 
--- the judgement of one list of tests and then another: the first refusal, if there is one
-abbrev pub firstRefusal : Status → Status → Status
-firstRefusal s t = cond (eqb (s .number) 0) t s
+-- the same as code makes it, from the first test on: a test is made where none before it has failed
+unfoldable pub next : Status → Test → Status
+next s t = cond (eqb (s .number) 0) (cond (t .fails) (status (t .number) (t .place)) s) s
+
+abbrev pub judgeFrom : Status → List Test → Status
+judgeFrom s [] = s
+judgeFrom s (t ∷ ts) = judgeFrom (next s t) ts
 
 -- no test fails
 unfoldable pub Passes : List Test → Type 0

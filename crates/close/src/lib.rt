@@ -11,7 +11,7 @@ ghost use Prim.Native.Nat.{_≤_, _<_};
 ghost use lib.Dec.{ltb, eqb};
 ghost use lib.ListN.{length, set};
 ghost use Rattle.base.specs.F64.{_+f_};
-ghost use Rattle.base.specs.Refusal.{test, judge};
+ghost use Rattle.base.specs.Refusal.{test, judge, next, judgeFrom};
 ghost use Rattle.input.specs.Input.{lengthTest};
 ghost use Rattle.tiling.specs.Tiling.{Limits, tiles, inPhase};
 ghost use Rattle.job.specs.Close.{firstOf, isMissing, closeTests, withDeltas, released, nextWith, closed, closeOf};
@@ -52,24 +52,36 @@ fn first_missing(r: JobRecord, tile_states: &[u8]) -> usize
 
 // Refusals 16 and 11.
 fn check_buffers(
+    s: Status,
     r: JobRecord,
     accepted_per_pass_len: usize,
     tile_states_len: usize,
     deltas_len: usize,
 ) -> Status
-    requires { ⌜ Limits (r .plan .tiling) ⌝ }
-    ensures { λ s. ⌜ s ≡ judge (test (r .finished) 16 0 ∷ lengthTest 3 «accepted_per_pass_len» (r .plan .allowed) ∷ lengthTest 4 «tile_states_len» (tiles (r .plan .tiling)) ∷ lengthTest 5 «deltas_len» (tiles (r .plan .tiling)) ∷ []) ⌝ }
+    requires { ⌜ (s .number ≡ 0 → Limits (r .plan .tiling)) ⌝ }
+    ensures { λ u. ⌜ u ≡ judgeFrom s (test (r .finished) 16 0 ∷ lengthTest 3 «accepted_per_pass_len» (r .plan .allowed) ∷ lengthTest 4 «tile_states_len» (tiles (r .plan .tiling)) ∷ lengthTest 5 «deltas_len» (tiles (r .plan .tiling)) ∷ []) ⌝ }
 {
+    if s.number != 0 {
+        return s;
+    }
     let plan = r.plan;
     let tiles = tiling::tile_count(plan.tiling);
-    let finished = input::refuse_if(r.finished, 16, 0);
-    let counts = input::check_length(3, accepted_per_pass_len, plan.allowed as usize);
-    let states = input::check_length(4, tile_states_len, tiles);
-    let deltas = input::check_length(5, deltas_len, tiles);
-    input::first_refusal(
-        finished,
-        input::first_refusal(counts, input::first_refusal(states, deltas)),
-    )
+    let s1 = base::next(s, r.finished, 16, 0);
+    let s2 = input::next_length(s1, 3, accepted_per_pass_len, plan.allowed as usize);
+    let s3 = input::next_length(s2, 4, tile_states_len, tiles);
+    input::next_length(s3, 5, deltas_len, tiles)
+}
+
+// Refusal 15.
+fn check_missing(s: Status, r: JobRecord, tile_states: &[u8]) -> Status
+    requires { ⌜ (s .number ≡ 0 → Limits (r .plan .tiling) × (length (now «tile_states») ≡ tiles (r .plan .tiling))) ⌝ }
+    ensures { λ u. ⌜ u ≡ next s (test (ltb (firstOf (isMissing r (now («tile_states» .entry))) (tiles (r .plan .tiling))) (tiles (r .plan .tiling))) 15 (firstOf (isMissing r (now («tile_states» .entry))) (tiles (r .plan .tiling)))) ⌝ }
+{
+    if s.number != 0 {
+        return s;
+    }
+    let missing = first_missing(r, tile_states);
+    base::next(s, missing < tile_states.len(), 15, missing as u64)
 }
 
 // Refusals 12, 16, 11 and 15.
@@ -81,16 +93,15 @@ fn check_close(
 ) -> Status
     ensures { λ s. ⌜ s ≡ judge (closeTests r (now («accepted_per_pass» .entry)) (now («tile_states» .entry)) (now (deltas .entry))) ⌝ }
 {
-    let record = records::check_record(r);
-    if record.number != 0 {
-        return record;
-    }
-    let buffers = check_buffers(r, accepted_per_pass.len(), tile_states.len(), deltas.len());
-    if buffers.number != 0 {
-        return buffers;
-    }
-    let missing = first_missing(r, tile_states);
-    input::refuse_if(missing < tile_states.len(), 15, missing as u64)
+    let s1 = records::check_record(r);
+    let s2 = check_buffers(
+        s1,
+        r,
+        accepted_per_pass.len(),
+        tile_states.len(),
+        deltas.len(),
+    );
+    check_missing(s2, r, tile_states)
 }
 
 // The error, with a tile's delta where it is one of the phase.

@@ -4,9 +4,9 @@
 use base::Status;
 ghost use mathlib.Core.Path.{_≡_};
 ghost use Prim.Native.Nat.{_-_, _≤_};
-ghost use Rattle.base.specs.Refusal.{status};
+ghost use Rattle.base.specs.Refusal.{judgeFrom};
 ghost use Rattle.eye.specs.Exp.{series, expOf};
-ghost use Rattle.eye.specs.Eye.{toDegrees, sigmaPx, isFinitePositive, Narrow, blurRadius, eye, eyeOf};
+ghost use Rattle.eye.specs.Eye.{toDegrees, sigmaPx, isFinitePositive, Narrow, blurRadius, eyeTests, withRadii, eyeOf};
 
 // Kolpatzik & Bouman (1992) exponential CSF decay constants, W(f) ∝ exp(-α·f), f in cycles/degree.
 // Luminance: Näsänen's α(L) = 1 / (0.525·ln L + 3.91) at L = 11 cd/m² ≈ 0.193.
@@ -104,14 +104,34 @@ fn is_finite_positive(x: f64) -> bool
     false
 }
 
-// A refusal, with no radii.
-fn refused(number: u64, place: u64) -> Eye
-    ensures { λ r. ⌜ r ≡ eye (status number place) 0 0 ⌝ }
+// Refusals 7, 8 and 9 in order.
+fn check(s: Status, p: DbsParams) -> Status
+    ensures { λ r. ⌜ r ≡ judgeFrom s (eyeTests p) ⌝ }
 {
+    let lum = eye_sigma_px(ALPHA_LUM, p);
+    let chroma = eye_sigma_px(ALPHA_CHROMA, p);
+    let s1 = base::next(s, !is_finite_positive(p.ppi), 7, 0);
+    let s2 = base::next(s1, !is_finite_positive(p.viewing_distance_cm), 8, 0);
+    let s3 = base::next(s2, lum < SIGMA_MIN, 9, 0);
+    base::next(s3, BLUR_TRUNCATION_SIGMAS * chroma > TRUNCATION_MAX, 9, 1)
+}
+
+// The eye after the tests before it: both kernel radii where none of all applies.
+pub fn check_eye(s: Status, p: DbsParams) -> Eye
+    ensures { λ r. ⌜ r ≡ withRadii (judgeFrom s (eyeTests p)) p ⌝ }
+{
+    let status = check(s, p);
+    if !base::is_accepted(status) {
+        return Eye {
+            status,
+            lum_radius: 0,
+            chroma_radius: 0,
+        };
+    }
     Eye {
-        status: Status { number, place },
-        lum_radius: 0,
-        chroma_radius: 0,
+        status,
+        lum_radius: 2 * blur_radius(eye_sigma_px(ALPHA_LUM, p)),
+        chroma_radius: 2 * blur_radius(eye_sigma_px(ALPHA_CHROMA, p)),
     }
 }
 
@@ -120,27 +140,6 @@ impl DbsParams {
     pub fn validate(self) -> Eye
         ensures { λ r. ⌜ r ≡ eyeOf self ⌝ }
     {
-        if !is_finite_positive(self.ppi) {
-            return refused(7, 0);
-        }
-        if !is_finite_positive(self.viewing_distance_cm) {
-            return refused(8, 0);
-        }
-        let lum = eye_sigma_px(ALPHA_LUM, self);
-        if lum < SIGMA_MIN {
-            return refused(9, 0);
-        }
-        let chroma = eye_sigma_px(ALPHA_CHROMA, self);
-        if BLUR_TRUNCATION_SIGMAS * chroma > TRUNCATION_MAX {
-            return refused(9, 1);
-        }
-        Eye {
-            status: Status {
-                number: 0,
-                place: 0,
-            },
-            lum_radius: 2 * blur_radius(lum),
-            chroma_radius: 2 * blur_radius(chroma),
-        }
+        check_eye(base::ok(), self)
     }
 }

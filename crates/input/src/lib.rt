@@ -6,9 +6,7 @@ use base::Status;
 use eye::DbsParams;
 use eye::Eye;
 ghost use mathlib.Core.Path.{_≡_};
-ghost use mathlib.Core.List.{[], _∷_};
-ghost use Rattle.base.specs.Refusal.{test, judge, firstRefusal};
-ghost use Rattle.eye.specs.Eye.{eye};
+ghost use Rattle.base.specs.Refusal.{judge, accepted, next, judgeFrom};
 ghost use Rattle.input.specs.Input.{isWithin, sizeFits, maskFits, paletteFits, firstUnnamed, imageTests, inkTests, input, checkedOf, lengthTest, runTests, refineRunTests, openRunTests};
 
 // The largest width and height.
@@ -20,29 +18,6 @@ const MAX_PASSES: u64 = 1000;
 
 // Values of both kernels: 2 x 65 x 65.
 const CPP_LEN: usize = 8450;
-
-// One test.
-pub fn refuse_if(fails: bool, number: u64, place: u64) -> Status
-    ensures { λ r. ⌜ r ≡ judge (test fails number place ∷ []) ⌝ }
-{
-    if fails {
-        return Status { number, place };
-    }
-    Status {
-        number: 0,
-        place: 0,
-    }
-}
-
-// Of two judgements the first that refuses.
-pub fn first_refusal(first: Status, second: Status) -> Status
-    ensures { λ r. ⌜ r ≡ firstRefusal first second ⌝ }
-{
-    if first.number == 0 {
-        return second;
-    }
-    first
-}
 
 pub fn is_within(low: u64, x: u64, high: u64) -> bool
     ensures { λ r. ⌜ r ≡ isWithin low x high ⌝ }
@@ -73,28 +48,23 @@ fn is_palette(palette_len: usize) -> bool
 
 // Refusals 1 to 4.
 fn check_image(
+    s: Status,
     width: u64,
     height: u64,
     pixels_len: usize,
     indices_len: usize,
     pinned_len: usize,
 ) -> Status
-    ensures { λ r. ⌜ r ≡ judge (imageTests width height «pixels_len» «indices_len» «pinned_len») ⌝ }
+    ensures { λ r. ⌜ r ≡ judgeFrom s (imageTests width height «pixels_len» «indices_len» «pinned_len») ⌝ }
 {
-    if !is_size(width, height) {
-        return Status {
-            number: 1,
-            place: 0,
-        };
+    let s1 = base::next(s, !is_size(width, height), 1, 0);
+    if s1.number != 0 {
+        return s1;
     }
     let n = height as usize * width as usize;
-    first_refusal(
-        refuse_if(pixels_len != 3 * n, 2, 0),
-        first_refusal(
-            refuse_if(indices_len != n, 3, 0),
-            refuse_if(!is_mask(pinned_len, n), 4, 0),
-        ),
-    )
+    let s2 = base::next(s1, pixels_len != 3 * n, 2, 0);
+    let s3 = base::next(s2, indices_len != n, 3, 0);
+    base::next(s3, !is_mask(pinned_len, n), 4, 0)
 }
 
 fn wide(b: u8) -> usize
@@ -118,24 +88,12 @@ pub fn first_unnamed(indices: &[u8], n: usize) -> usize
 }
 
 // Refusals 5 and 6.
-fn check_inks(palette_len: usize, indices: &[u8]) -> Status
-    ensures { λ r. ⌜ r ≡ judge (inkTests «palette_len» (now (indices .entry))) ⌝ }
+fn check_inks(s: Status, palette_len: usize, indices: &[u8]) -> Status
+    ensures { λ r. ⌜ r ≡ judgeFrom s (inkTests «palette_len» (now (indices .entry))) ⌝ }
 {
-    let inks = refuse_if(!is_palette(palette_len), 5, 0);
     let place = first_unnamed(indices, palette_len / 3);
-    let index = refuse_if(place < indices.len(), 6, place as u64);
-    first_refusal(inks, index)
-}
-
-// A refusal, with no radii.
-fn refused(status: Status) -> Eye
-    ensures { λ r. ⌜ r ≡ eye status 0 0 ⌝ }
-{
-    Eye {
-        status,
-        lum_radius: 0,
-        chroma_radius: 0,
-    }
+    let s1 = base::next(s, !is_palette(palette_len), 5, 0);
+    base::next(s1, place < indices.len(), 6, place as u64)
 }
 
 // Refusals 1 to 9, and both kernel radii where none applies. Measuring lends an empty mask.
@@ -150,22 +108,23 @@ pub fn check_input(
 ) -> Eye
     ensures { λ r. ⌜ r ≡ checkedOf (input width height (now (pixels .entry)) (now (palette .entry)) (now (indices .entry)) (now (pinned .entry)) params) ⌝ }
 {
-    let image = check_image(width, height, pixels.len(), indices.len(), pinned.len());
-    if image.number != 0 {
-        return refused(image);
-    }
-    let inks = check_inks(palette.len(), indices);
-    if inks.number != 0 {
-        return refused(inks);
-    }
-    params.validate()
+    let image = check_image(
+        base::ok(),
+        width,
+        height,
+        pixels.len(),
+        indices.len(),
+        pinned.len(),
+    );
+    let inks = check_inks(image, palette.len(), indices);
+    eye::check_eye(inks, params)
 }
 
-// A line of refusal 11.
-pub fn check_length(buffer: u64, len: usize, wanted: usize) -> Status
-    ensures { λ r. ⌜ r ≡ judge (lengthTest buffer len wanted ∷ []) ⌝ }
+// The next line of refusal 11.
+pub fn next_length(s: Status, buffer: u64, len: usize, wanted: usize) -> Status
+    ensures { λ r. ⌜ r ≡ next s (lengthTest buffer len wanted) ⌝ }
 {
-    refuse_if(len != wanted, 11, buffer)
+    base::next(s, len != wanted, 11, buffer)
 }
 
 // Refusal 10, and 11 of buffers 1 to 3.
@@ -176,18 +135,12 @@ fn check_run(
     cpp_len: usize,
     accepted_per_pass_len: usize,
 ) -> Status
-    ensures { λ r. ⌜ r ≡ judge (runTests «max_passes» «cpe_wanted» «cpe_len» «cpp_len» «accepted_per_pass_len») ⌝ }
+    ensures { λ r. ⌜ r ≡ judgeFrom accepted (runTests «max_passes» «cpe_wanted» «cpe_len» «cpp_len» «accepted_per_pass_len») ⌝ }
 {
-    first_refusal(
-        refuse_if(max_passes > MAX_PASSES, 10, 0),
-        first_refusal(
-            check_length(1, cpe_len, cpe_wanted),
-            first_refusal(
-                check_length(2, cpp_len, CPP_LEN),
-                check_length(3, accepted_per_pass_len, max_passes as usize),
-            ),
-        ),
-    )
+    let s1 = base::next(base::ok(), max_passes > MAX_PASSES, 10, 0);
+    let s2 = next_length(s1, 1, cpe_len, cpe_wanted);
+    let s3 = next_length(s2, 2, cpp_len, CPP_LEN);
+    next_length(s3, 3, accepted_per_pass_len, max_passes as usize)
 }
 
 // Refusals 10 and 11 of refine, after `check_input`. `cpe_wanted` and `inks_wanted` are the lengths
@@ -210,8 +163,7 @@ pub fn check_refine(
         cpp_len,
         accepted_per_pass_len,
     );
-    let inks = check_length(8, inks_len, inks_wanted);
-    first_refusal(run, inks)
+    next_length(run, 8, inks_len, inks_wanted)
 }
 
 // Refusals 10 and 11 of open, after `check_input`, for an image of so many tiles.
@@ -236,8 +188,7 @@ pub fn check_open(
         cpp_len,
         accepted_per_pass_len,
     );
-    let tile_states = check_length(4, tile_states_len, tiles);
-    let deltas = check_length(5, deltas_len, tiles);
-    let inks = check_length(8, inks_len, inks_wanted);
-    first_refusal(run, first_refusal(tile_states, first_refusal(deltas, inks)))
+    let s1 = next_length(run, 4, tile_states_len, tiles);
+    let s2 = next_length(s1, 5, deltas_len, tiles);
+    next_length(s2, 8, inks_len, inks_wanted)
 }

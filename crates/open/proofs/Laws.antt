@@ -10,13 +10,12 @@ use Rattle.base.specs.declared.Status.{Status}
 use Rattle.base.specs.F64.{f0}
 use Rattle.base.specs.Refusal.{judge, accepted}
 use Rattle.base.proofs.Bounds.{image-product}
-use Rattle.base.proofs.JudgeLaws.{early, goes-on}
 use Rattle.eye.specs.declared.Eye.{Eye}
 use Rattle.tiling.specs.declared.Tiling.{Tiling}
 use Rattle.tiling.specs.Tiling.{Limits, tiles}
 use Rattle.input.specs.Input.{Input, pixelCount, inkCount, inputTests, checkedOf, openRunTests, openTests}
 use Rattle.input.specs.Valid.{Valid, ValidOpen}
-use Rattle.input.proofs.InputLaws.{input-numbered, checked-status, checked-accepted}
+use Rattle.input.proofs.InputLaws.{checked-accepted, input-refused, input-accepted}
 use Rattle.input.proofs.Validity.{valid-iff, valid-radii, open-passes}
 use Rattle.prepare.specs.Prepare.{ReadyToPrepare, Prepared, tilingOf}
 use Rattle.refine.proofs.Laws.{tiling-is}
@@ -27,19 +26,19 @@ use Rattle.job.proofs.Answers.{open-answers}
 
 -- the eye that the first tests found
 module _ (I : Input) (e : Eye) (q : e ≡ checkedOf I) where
-  found : e .status ≡ judge (inputTests I)
-  found = ap (λ (v : Eye). v .status) q ∙ checked-status I
+  found : e .status ≡ checkedOf I .status
+  found = ap (λ (v : Eye). v .status) q
 
   module _ (passes count cpe cpp counts states deltas inks : ℕ) where
-    pub input-refused : (e .status .number ≡ 0 → ⊥) → e .status ≡ judge (openTests I passes count cpe cpp counts states deltas inks)
+    pub refused-first : (e .status .number ≡ 0 → ⊥) → e .status ≡ judge (openTests I passes count cpe cpp counts states deltas inks)
     unfolding openTests
-    input-refused f = early (inputTests I) _ (input-numbered I) found f
+    refused-first f = found ∙ sym (input-refused I _ (rw found at f))
 
     pub run-judged : e .status .number ≡ 0 → {s : Status} →
         s ≡ judge (openRunTests passes (3 * pixelCount I) (3 * inkCount I) count cpe cpp counts states deltas inks) →
         s ≡ judge (openTests I passes count cpe cpp counts states deltas inks)
     unfolding openTests
-    run-judged z p = goes-on (inputTests I) _ (input-numbered I) found z p
+    run-judged z p = p ∙ sym (input-accepted I _ (rw found at z))
 
   module _ (z : e .status .number ≡ 0) where
     passed : judge (inputTests I) ≡ accepted

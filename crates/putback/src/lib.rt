@@ -10,7 +10,8 @@ ghost use Prim.Native.Nat.{_+_, _*_, _≤_, _<_};
 ghost use lib.Dec.{ltb};
 ghost use lib.ListN.{length};
 ghost use Rattle.base.specs.Grid.{area};
-ghost use Rattle.base.specs.Refusal.{test, judge};
+ghost use Rattle.base.specs.Refusal.{test, judge, next, judgeFrom};
+ghost use Rattle.input.specs.Input.{lengthTest};
 ghost use Rattle.tiling.specs.Tiling.{Limits, tiles, region};
 ghost use Rattle.tile.specs.Tile.{state};
 ghost use Rattle.job.specs.Record.{pixelsOf, isDue};
@@ -40,14 +41,26 @@ fn is_over(r: JobRecord, tile: u64, accepted: u64) -> bool
 }
 
 // Refusals 12, 16 and 13.
-fn check_turn(r: JobRecord, tile: u64, accepted: u64) -> Status
-    requires { ⌜ ValidRecord r ⌝ }
-    ensures { λ s. ⌜ s ≡ judge (countTest r tile accepted ∷ test (r .finished) 16 0 ∷ test (not (isDue r tile)) 13 0 ∷ []) ⌝ }
+fn check_turn(s: Status, r: JobRecord, tile: u64, accepted: u64) -> Status
+    requires { ⌜ (s .number ≡ 0 → ValidRecord r) ⌝ }
+    ensures { λ u. ⌜ u ≡ judgeFrom s (countTest r tile accepted ∷ test (r .finished) 16 0 ∷ test (not (isDue r tile)) 13 0 ∷ []) ⌝ }
 {
-    input::first_refusal(
-        input::refuse_if(is_over(r, tile, accepted), 12, 0),
-        records::check_turn(r, tile),
-    )
+    if s.number != 0 {
+        return s;
+    }
+    let s1 = base::next(s, is_over(r, tile, accepted), 12, 0);
+    records::check_turn(s1, r, tile)
+}
+
+// Refusal 11 of the deltas.
+fn check_deltas(s: Status, t: Tiling, deltas_len: usize) -> Status
+    requires { ⌜ (s .number ≡ 0 → Limits t) ⌝ }
+    ensures { λ u. ⌜ u ≡ next s (lengthTest 5 «deltas_len» (tiles t)) ⌝ }
+{
+    if s.number != 0 {
+        return s;
+    }
+    input::next_length(s, 5, deltas_len, tiling::tile_count(t))
 }
 
 // Refusals 12, 16, 13, 3, 11, 14 and 6.
@@ -65,28 +78,15 @@ fn check_put_back(
 ) -> Status
     ensures { λ s. ⌜ s ≡ judge (putBackTests r tile (pixels (now (cpe .entry)) (now (indices .entry))) (now («tile_states» .entry)) (now (deltas .entry)) (state (now («copy_cpe» .entry)) (now («copy_indices» .entry)) (record { accepted = accepted; delta = delta }))) ⌝ }
 {
-    let record = records::check_record(r);
-    if record.number != 0 {
-        return record;
-    }
-    let turn = check_turn(r, tile, accepted);
-    if turn.number != 0 {
-        return turn;
-    }
     let plan = r.plan;
     let t = plan.tiling;
-    let image = records::check_image(t, indices.len(), cpe.len(), tile_states.len());
-    if image.number != 0 {
-        return image;
-    }
-    let room = input::check_length(5, deltas.len(), tiling::tile_count(t));
-    let copy = records::check_copy(t, tile as usize, copy_cpe.len(), copy_indices.len());
-    let out = input::refuse_if(tile_states[tile as usize] != OUT, 14, 0);
-    let named = records::check_named(r, copy_indices);
-    input::first_refusal(
-        room,
-        input::first_refusal(copy, input::first_refusal(out, named)),
-    )
+    let s1 = records::check_record(r);
+    let s2 = check_turn(s1, r, tile, accepted);
+    let s3 = records::check_image(s2, t, indices.len(), cpe.len(), tile_states.len());
+    let s4 = check_deltas(s3, t, deltas.len());
+    let s5 = records::check_copy(s4, t, tile as usize, copy_cpe.len(), copy_indices.len());
+    let s6 = records::check_state(s5, tile_states, tile as usize, OUT);
+    records::check_named(s6, r, copy_indices)
 }
 
 // The copies over the region of a tile.

@@ -11,9 +11,9 @@ ghost use mathlib.Core.Bool.{not, _&&_};
 ghost use mathlib.Core.List.{[], _∷_};
 ghost use Prim.Native.Nat.{_*_, _≤_, _<_};
 ghost use lib.Dec.{leb, ltb, eqb};
-ghost use lib.ListN.{length};
+ghost use lib.ListN.{length, getD, take};
 ghost use Rattle.base.specs.Grid.{area};
-ghost use Rattle.base.specs.Refusal.{test, judge};
+ghost use Rattle.base.specs.Refusal.{test, judge, accepted, next, judgeFrom};
 ghost use Rattle.input.specs.Input.{lengthTest};
 ghost use Rattle.tiling.specs.Tiling.{Limits, tiles, region};
 ghost use Rattle.tiling.specs.Tiling as spec;
@@ -41,11 +41,11 @@ fn is_radius(radius: usize) -> bool
     radius % 2 == 0 && input::is_within(2, radius as u64, 32)
 }
 
-// Refusal 12, where this fails.
-fn limit(fails: bool) -> Status
-    ensures { λ r. ⌜ r ≡ judge (test fails 12 0 ∷ []) ⌝ }
+// The next line of refusal 12.
+fn limit(s: Status, fails: bool) -> Status
+    ensures { λ r. ⌜ r ≡ next s (test fails 12 0) ⌝ }
 {
-    input::refuse_if(fails, 12, 0)
+    base::next(s, fails, 12, 0)
 }
 
 // Unfinished with no pass remaining.
@@ -56,41 +56,34 @@ fn is_spent(r: JobRecord) -> bool
     !r.finished && r.done >= plan.allowed
 }
 
-// Refusal 12 of a record.
-pub fn check_record(r: JobRecord) -> Status
-    ensures { λ s. ⌜ s ≡ judge (recordTests r) ⌝ }
+// Refusal 12 of a plan: a record's first five tests.
+fn check_plan(r: JobRecord) -> Status
+    ensures { λ s. ⌜ s ≡ judgeFrom accepted (take 5 (recordTests r)) ⌝ }
 {
     let plan = r.plan;
     let t = plan.tiling;
-    let size = limit(!input::is_size(t.width as u64, t.height as u64));
-    if size.number != 0 {
-        return size;
+    let s1 = limit(base::ok(), !input::is_size(t.width as u64, t.height as u64));
+    let s2 = limit(s1, !input::is_within(1, plan.inks, MAX_INKS));
+    let s3 = limit(s2, !is_radius(t.lum));
+    let s4 = limit(s3, !is_radius(t.chroma));
+    limit(s4, plan.allowed > MAX_PASSES)
+}
+
+// Refusal 12 of a record.
+pub fn check_record(r: JobRecord) -> Status
+    ensures { λ s. ⌜ s ≡ judgeFrom accepted (recordTests r) ⌝ }
+{
+    let s = check_plan(r);
+    if s.number != 0 {
+        return s;
     }
+    let plan = r.plan;
+    let t = plan.tiling;
     let n = t.height * t.width;
-    let inks = limit(!input::is_within(1, plan.inks, MAX_INKS));
-    let lum = limit(!is_radius(t.lum));
-    let chroma = limit(!is_radius(t.chroma));
-    let allowed = limit(plan.allowed > MAX_PASSES);
-    let done = limit(r.done > plan.allowed);
-    let phase = limit(r.phase > 3);
-    let left = limit(is_spent(r));
-    let accepted = limit(r.accepted > n as u64);
-    input::first_refusal(
-        inks,
-        input::first_refusal(
-            lum,
-            input::first_refusal(
-                chroma,
-                input::first_refusal(
-                    allowed,
-                    input::first_refusal(
-                        done,
-                        input::first_refusal(phase, input::first_refusal(left, accepted)),
-                    ),
-                ),
-            ),
-        ),
-    )
+    let s1 = limit(s, r.done > plan.allowed);
+    let s2 = limit(s1, r.phase > 3);
+    let s3 = limit(s2, is_spent(r));
+    limit(s3, r.accepted > n as u64)
 }
 
 // Whether the image has this tile.
@@ -112,14 +105,15 @@ fn is_due(r: JobRecord, tile: u64) -> bool
 }
 
 // Refusals 16 and 13 of take and put back.
-pub fn check_turn(r: JobRecord, tile: u64) -> Status
-    requires { ⌜ Limits (r .plan .tiling) ⌝ }
-    ensures { λ s. ⌜ s ≡ judge (test (r .finished) 16 0 ∷ test (not (isDue r tile)) 13 0 ∷ []) ⌝ }
+pub fn check_turn(s: Status, r: JobRecord, tile: u64) -> Status
+    requires { ⌜ (s .number ≡ 0 → Limits (r .plan .tiling)) ⌝ }
+    ensures { λ u. ⌜ u ≡ judgeFrom s (test (r .finished) 16 0 ∷ test (not (isDue r tile)) 13 0 ∷ []) ⌝ }
 {
-    input::first_refusal(
-        input::refuse_if(r.finished, 16, 0),
-        input::refuse_if(!is_due(r, tile), 13, 0),
-    )
+    if s.number != 0 {
+        return s;
+    }
+    let s1 = base::next(s, r.finished, 16, 0);
+    base::next(s1, !is_due(r, tile), 13, 0)
 }
 
 fn rect_size(r: Rect) -> usize
@@ -146,57 +140,80 @@ fn region_size(t: Tiling, tile: usize) -> usize
 }
 
 // Refusal 3, and 11 of `cpe` and the tile states.
-pub fn check_image(t: Tiling, indices_len: usize, cpe_len: usize, tile_states_len: usize) -> Status
-    requires { ⌜ Limits t ⌝ }
-    ensures { λ s. ⌜ s ≡ judge (test (not (eqb «indices_len» (t .height * t .width))) 3 0 ∷ lengthTest 1 «cpe_len» (3 * (t .height * t .width)) ∷ lengthTest 4 «tile_states_len» (tiles t) ∷ []) ⌝ }
+pub fn check_image(
+    s: Status,
+    t: Tiling,
+    indices_len: usize,
+    cpe_len: usize,
+    tile_states_len: usize,
+) -> Status
+    requires { ⌜ (s .number ≡ 0 → Limits t) ⌝ }
+    ensures { λ u. ⌜ u ≡ judgeFrom s (test (not (eqb «indices_len» (t .height * t .width))) 3 0 ∷ lengthTest 1 «cpe_len» (3 * (t .height * t .width)) ∷ lengthTest 4 «tile_states_len» (tiles t) ∷ []) ⌝ }
 {
+    if s.number != 0 {
+        return s;
+    }
     let n = t.height * t.width;
-    input::first_refusal(
-        input::refuse_if(indices_len != n, 3, 0),
-        input::first_refusal(
-            input::check_length(1, cpe_len, 3 * n),
-            input::check_length(4, tile_states_len, tiling::tile_count(t)),
-        ),
-    )
+    let s1 = base::next(s, indices_len != n, 3, 0);
+    let s2 = input::next_length(s1, 1, cpe_len, 3 * n);
+    input::next_length(s2, 4, tile_states_len, tiling::tile_count(t))
 }
 
 // Refusal 11 of the copies of a tile's region.
-pub fn check_copy(t: Tiling, tile: usize, copy_cpe_len: usize, copy_indices_len: usize) -> Status
-    requires { ⌜ Limits t × (tile < tiles t) ⌝ }
-    ensures { λ s. ⌜ s ≡ judge (lengthTest 6 «copy_cpe_len» (3 * area (region t tile)) ∷ lengthTest 7 «copy_indices_len» (area (region t tile)) ∷ []) ⌝ }
+pub fn check_copy(
+    s: Status,
+    t: Tiling,
+    tile: usize,
+    copy_cpe_len: usize,
+    copy_indices_len: usize,
+) -> Status
+    requires { ⌜ (s .number ≡ 0 → Limits t × (tile < tiles t)) ⌝ }
+    ensures { λ u. ⌜ u ≡ judgeFrom s (lengthTest 6 «copy_cpe_len» (3 * area (region t tile)) ∷ lengthTest 7 «copy_indices_len» (area (region t tile)) ∷ []) ⌝ }
 {
+    if s.number != 0 {
+        return s;
+    }
     let n = region_size(t, tile);
-    input::first_refusal(
-        input::check_length(6, copy_cpe_len, 3 * n),
-        input::check_length(7, copy_indices_len, n),
-    )
+    let s1 = input::next_length(s, 6, copy_cpe_len, 3 * n);
+    input::next_length(s1, 7, copy_indices_len, n)
+}
+
+// Refusal 14: a tile that is not in this state.
+pub fn check_state(s: Status, tile_states: &[u8], tile: usize, wanted: u8) -> Status
+    requires { ⌜ (s .number ≡ 0 → tile < length (now «tile_states»)) ⌝ }
+    ensures { λ u. ⌜ u ≡ next s (test (not (eqb (getD (now («tile_states» .entry)) tile 0) wanted)) 14 0) ⌝ }
+{
+    if s.number != 0 {
+        return s;
+    }
+    base::next(s, tile_states[tile] != wanted, 14, 0)
 }
 
 // Refusal 6 of a copy.
-pub fn check_named(r: JobRecord, copy_indices: &[u8]) -> Status
-    ensures { λ s. ⌜ s ≡ judge (copyTest r (now («copy_indices» .entry)) ∷ []) ⌝ }
+pub fn check_named(s: Status, r: JobRecord, copy_indices: &[u8]) -> Status
+    ensures { λ u. ⌜ u ≡ next s (copyTest r (now («copy_indices» .entry))) ⌝ }
 {
     let plan = r.plan;
     let place = input::first_unnamed(copy_indices, plan.inks as usize);
-    input::refuse_if(place < copy_indices.len(), 6, place as u64)
+    base::next(s, place < copy_indices.len(), 6, place as u64)
 }
 
 // Refusal 12 of a run's length.
 pub fn check_run(words_len: usize) -> Status
     ensures { λ s. ⌜ s ≡ judge (test (not (eqb «words_len» 12)) 12 0 ∷ []) ⌝ }
 {
-    limit(words_len != RECORD_LEN)
+    limit(base::ok(), words_len != RECORD_LEN)
 }
 
 // Refusal 12 of a run that is read: its length, or a finished word that is neither 1 nor 0.
 pub fn check_words(words: &[u64]) -> Status
     ensures { λ s. ⌜ s ≡ judge (wordsTests (now (words .entry))) ⌝ }
 {
-    let length = check_run(words.len());
-    if length.number != 0 {
-        return length;
+    let s = limit(base::ok(), words.len() != RECORD_LEN);
+    if s.number != 0 {
+        return s;
     }
-    limit(words[11] > 1)
+    limit(s, words[11] > 1)
 }
 
 // The record of a run.

@@ -29,23 +29,13 @@ fn check_take(
 ) -> Status
     ensures { λ s. ⌜ s ≡ judge (takeTests r tile (pixels (now (cpe .entry)) (now (indices .entry))) (now («tile_states» .entry)) (pixels (now («copy_cpe» .entry)) (now («copy_indices» .entry)))) ⌝ }
 {
-    let record = records::check_record(r);
-    if record.number != 0 {
-        return record;
-    }
-    let turn = records::check_turn(r, tile);
-    if turn.number != 0 {
-        return turn;
-    }
     let plan = r.plan;
     let t = plan.tiling;
-    let image = records::check_image(t, indices.len(), cpe.len(), tile_states.len());
-    if image.number != 0 {
-        return image;
-    }
-    let copy = records::check_copy(t, tile as usize, copy_cpe.len(), copy_indices.len());
-    let waiting = input::refuse_if(tile_states[tile as usize] != WAITING, 14, 0);
-    input::first_refusal(copy, waiting)
+    let s1 = records::check_record(r);
+    let s2 = records::check_turn(s1, r, tile);
+    let s3 = records::check_image(s2, t, indices.len(), cpe.len(), tile_states.len());
+    let s4 = records::check_copy(s3, t, tile as usize, copy_cpe.len(), copy_indices.len());
+    records::check_state(s4, tile_states, tile as usize, WAITING)
 }
 
 // The region of a tile into both copies.

@@ -1,76 +1,74 @@
--- `check_image` meets its contract: past the first test both sides are at most 4,096, so that no product wraps, and the other tests are
--- made one by one. Assumes nothing.
+-- `check_image` meets its contract: past the first test both sides are at most 4,096, so that no product wraps. Assumes nothing.
 use Prim.Native.Nat.{_*_, _≤_}
 use mathlib.Core.Path.{_≡_, sym, ap, _∙_}
-use mathlib.Core.Bool.{false, not}
+use mathlib.Core.Bool.{not}
+use mathlib.Core.List.{[], _∷_}
 use native.Mathlib.Omega.{arith}
-use borrow.Author.Needs.{needs}
+use Rattle.base.specs.declared.Status.{Status}
+use Rattle.base.specs.Refusal.{test, next, Passes}
 use Rattle.base.proofs.Bounds.{image-product}
-use Rattle.base.proofs.RefusalLaws.{Numbered, judge-pass, judge-fail}
+use Rattle.base.proofs.RefusalLaws.{Numbered}
+use Rattle.base.proofs.JudgeLaws.{stays, zero-from}
 use Rattle.input.specs.Input.{sizeFits, imageTests}
-use Rattle.base.proofs.JudgeLaws.{one-by-one}
 use Rattle.input.proofs.Limits.{size-iff}
+use borrow.Author.Needs.{needs}
 use Rattle.input.proofs.check_image.Statement.{statement}
 use Rattle.input.proofs.check_image.Tie as tie
+
+first : (c : tie.After-next) → let a = c .before .before .args in c .next .result ≡ next (a .s) (test (not (sizeFits (a .width) (a .height))) 1 0)
+first c = cc
+
+product : (c : tie.Else1) → c .before .before .before .before .args .height * c .before .before .before .before .args .width ≤ 16777216
+unfolding Numbered Passes
+product c =
+    let a = c .before .before .before .before .args in
+    let p = zero-from (a .s) (_ ∷ []) (omega arith) (ap (λ (u : Status). u .number) (sym (first (c .before .before))) ∙ c .if1 .left) in
+    let h = size-iff (a .width) (a .height) .0 (p .1 .0) in
+    image-product (a .height) (a .width) (h .1) (h .0 .1)
 
 is-size-requires : tie.Need-is-size-requires
 is-size-requires c κs = search needs
 
+next-requires : tie.Need-next-requires
+next-requires c κs = search needs
+
 returns : tie.Need-returns
 unfolding imageTests
-returns c = sym (judge-fail _ _ (ap not (sym (c .before .is-size .ensures)) ∙ c .if1 .taken))
-
-fits : (c : tie.Else1) → not (sizeFits (c .before .before .args .width) (c .before .before .args .height)) ≡ false
-fits c = ap not (sym (c .before .is-size .ensures)) ∙ c .if1 .left
-
-product : (c : tie.Else1) → c .before .before .args .height * c .before .before .args .width ≤ 16777216
-product c =
-    let start = c .before .before in
-    let h = size-iff (start .args .width) (start .args .height) .0 (fits c) in
-    image-product (start .args .height) (start .args .width) (h .1) (h .0 .1)
+returns c = rw (← first (c .before .before)) (stays _ (_ ∷ _ ∷ _ ∷ []) (c .if1 .taken))
 
 mul-n : tie.Need-mul-n
 mul-n c = omega (arith, product c)
 
-mul-refuse-if : tie.Need-mul-refuse-if
-mul-refuse-if c = omega (arith, product c)
+mul-next : tie.Need-mul-next
+mul-next c = omega (arith, product c)
 
-refuse-if-requires : tie.Need-refuse-if-requires
-refuse-if-requires c κs = search needs
+next-requires-2 : tie.Need-next-requires-2
+next-requires-2 c κs = search needs
 
-refuse-if-requires-2 : tie.Need-refuse-if-requires-2
-refuse-if-requires-2 c κs = search needs
+next-requires-3 : tie.Need-next-requires-3
+next-requires-3 c κs = search needs
 
 is-mask-requires : tie.Need-is-mask-requires
 is-mask-requires c κs = search needs
 
-refuse-if-requires-3 : tie.Need-refuse-if-requires-3
-refuse-if-requires-3 c κs = search needs
-
-first-refusal-requires : tie.Need-first-refusal-requires
-first-refusal-requires c κs = search needs
-
-first-refusal-requires-2 : tie.Need-first-refusal-requires-2
-first-refusal-requires-2 c κs = search needs
+next-requires-4 : tie.Need-next-requires-4
+next-requires-4 c κs = search needs
 
 returns-2 : tie.Need-returns-2
-unfolding imageTests Numbered
-returns-2 c =
-    rw (c .first-refusal2 .ensures, c .before .first-refusal .ensures, c .before .before .refuse-if3 .ensures, c .before .before .before .is-mask .ensures, c .before .before .before .before .refuse-if2 .ensures, c .before .before .before .before .before .refuse-if .ensures)
-    (one-by-one _ (omega arith) ∙ sym (judge-pass _ _ (fits (c .before .before .before .before .before .before))))
+unfolding imageTests
+returns-2 c = cc
 
 pub check-image-spec : {M : Type 1} → statement M
 check-image-spec =
     tie.close
     (tie.spec
     is-size-requires
+    next-requires
     returns
     mul-n
-    mul-refuse-if
-    refuse-if-requires
-    refuse-if-requires-2
+    mul-next
+    next-requires-2
+    next-requires-3
     is-mask-requires
-    refuse-if-requires-3
-    first-refusal-requires
-    first-refusal-requires-2
+    next-requires-4
     returns-2)

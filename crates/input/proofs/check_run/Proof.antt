@@ -1,48 +1,35 @@
--- `check_run` meets its contract: it makes the tests one by one. Assumes nothing.
-use native.Mathlib.Omega.{arith}
-use borrow.Author.Needs.{needs}
-use Rattle.base.proofs.RefusalLaws.{Numbered}
+-- `check_run` meets its contract: it makes the tests one after the other. Assumes nothing.
 use Rattle.input.specs.Input.{runTests}
-use Rattle.base.proofs.JudgeLaws.{one-by-one}
+use borrow.Author.Needs.{needs}
 use Rattle.input.proofs.check_run.Statement.{statement}
 use Rattle.input.proofs.check_run.Tie as tie
 
-refuse-if-requires : tie.Need-refuse-if-requires
-refuse-if-requires c κs = search needs
+ok-requires : tie.Need-ok-requires
+ok-requires c κs = search needs
 
-check-length-requires : tie.Need-check-length-requires
-check-length-requires c κs = search needs
+next-requires : tie.Need-next-requires
+next-requires c κs = search needs
 
-check-length-requires-2 : tie.Need-check-length-requires-2
-check-length-requires-2 c κs = search needs
+next-length-requires : tie.Need-next-length-requires
+next-length-requires c κs = search needs
 
-check-length-requires-3 : tie.Need-check-length-requires-3
-check-length-requires-3 c κs = search needs
+next-length-requires-2 : tie.Need-next-length-requires-2
+next-length-requires-2 c κs = search needs
 
-first-refusal-requires : tie.Need-first-refusal-requires
-first-refusal-requires c κs = search needs
-
-first-refusal-requires-2 : tie.Need-first-refusal-requires-2
-first-refusal-requires-2 c κs = search needs
-
-first-refusal-requires-3 : tie.Need-first-refusal-requires-3
-first-refusal-requires-3 c κs = search needs
+next-length-requires-3 : tie.Need-next-length-requires-3
+next-length-requires-3 c κs = search needs
 
 returns : tie.Need-returns
-unfolding runTests Numbered
-returns c =
-    rw (c .first-refusal3 .ensures, c .before .first-refusal2 .ensures, c .before .before .first-refusal .ensures, c .before .before .before .check-length3 .ensures, c .before .before .before .before .check-length2 .ensures, c .before .before .before .before .before .check-length .ensures, c .before .before .before .before .before .before .refuse-if .ensures)
-    (one-by-one _ (omega arith))
+unfolding runTests
+returns c = cc
 
 pub check-run-spec : {M : Type 1} → statement M
 check-run-spec =
     tie.close
     (tie.spec
-    refuse-if-requires
-    check-length-requires
-    check-length-requires-2
-    check-length-requires-3
-    first-refusal-requires
-    first-refusal-requires-2
-    first-refusal-requires-3
+    ok-requires
+    next-requires
+    next-length-requires
+    next-length-requires-2
+    next-length-requires-3
     returns)

@@ -6,7 +6,7 @@ use lib.ListN.{length}
 use Rattle.base.specs.Refusal.{judge}
 use Rattle.tiling.specs.Tiling.{tiles}
 use Rattle.input.specs.Input.{Input, input, pixelCount, inkCount, openRunTests}
-use Rattle.open.proofs.Laws.{input-refused, run-judged, few, tiling-found, limits}
+use Rattle.open.proofs.Laws.{refused-first, run-judged, few, tiling-found, limits}
 use borrow.Author.Needs.{needs}
 use Rattle.open.proofs.check.Statement.{statement}
 use Rattle.open.proofs.check.Tie as tie
@@ -18,7 +18,7 @@ check-input-requires : tie.Need-check-input-requires
 check-input-requires c κs = search needs
 
 returns : tie.Need-returns
-returns c = (input-refused (I (c .before .before .before .before .before .before .before .before)) _ (c .before .before .before .check-input .ensures) _ _ _ _ _ _ _ _ (c .if1 .taken), λ z. absurd (c .if1 .taken z))
+returns c = (refused-first (I (c .before .before .before .before .before .before .before .before)) _ (c .before .before .before .check-input .ensures) _ _ _ _ _ _ _ _ (c .if1 .taken), λ z. absurd (c .if1 .taken z))
 
 mul-field : tie.Need-mul-field
 mul-field c = omega (arith, few (I (c .before .before .before .before .before .before .before .before .before)) _ (c .before .before .before .before .check-input .ensures) (c .before .if1 .left))

@@ -1,105 +1,70 @@
--- `check_put_back` meets its contract: the tests are made in groups, each only once those before it have passed. Assumes nothing.
-use Prim.Native.Nat.{_*_}
-use native.Mathlib.Omega.{arith}
-use mathlib.Core.Path.{_≡_, ap, _∙_}
+-- `check_put_back` meets its contract: it makes the tests one after the other, and each part finds what it needs where those before it have passed. Assumes nothing.
+use Prim.Native.Nat.{_<_}
+use mathlib.Core.Path.{_≡_}
 use mathlib.Core.List.{[], _∷_}
-use lib.ListN.{length}
-use Rattle.base.specs.Refusal.{judge}
+use native.Mathlib.Omega.{arith}
+use Rattle.base.specs.Refusal.{Passes}
 use Rattle.base.proofs.RefusalLaws.{Numbered}
-use Rattle.base.proofs.JudgeLaws.{also, early, goes-on}
-use Rattle.input.specs.Input.{lengthTest}
-use Rattle.job.specs.Record.{pixelsOf, recordTests, isOut}
+use lib.ListN.{length}
+use Rattle.tiling.specs.Tiling.{Limits, tiles}
+use Rattle.job.specs.Record.{pixelsOf, isOut}
+use Rattle.job.specs.Work.{copyTest}
 use Rattle.job.specs.PutBack.{countTest, putBackTests}
-use Rattle.records.proofs.RecordLaws.{record-numbered, valid-record, record-limits, states-length}
-use borrow.Author.Needs.{needs}
+use Rattle.job.proofs.Validity.{equal-of}
+use Rattle.records.proofs.RecordLaws.{valid-record, record-limits, after-record, passed}
 use Rattle.putback.proofs.CountLaws.{turn-tile}
+use borrow.Author.Needs.{needs}
 use Rattle.putback.proofs.check_put_back.Statement.{statement}
 use Rattle.putback.proofs.check_put_back.Tie as tie
+
+turn : (c : tie.After-check-turn) → c .check-turn .result .number ≡ 0 → let a = c .before .before .before .before .before .before .before .before .before .before .args in Limits (a .r .plan .tiling) × (a .tile < tiles (a .r .plan .tiling))
+turn c z = let p = turn-tile _ _ _ _ (c .check-turn .ensures) z in (record-limits _ (c .before .check-record .ensures) (p .0), p .1)
+
+image : (c : tie.After-check-image) → c .check-image .result .number ≡ 0 → let a = c .before .before .before .before .before .before .before .before .before .before .before .args in
+    (Limits (a .r .plan .tiling) × (a .tile < tiles (a .r .plan .tiling))) × (length (a .tile-states .now) ≡ tiles (a .r .plan .tiling))
+unfolding Numbered Passes
+image c z = let p = passed _ (_ ∷ _ ∷ _ ∷ []) (omega arith) (c .check-image .ensures) z in (turn (c .before) (p .0), equal-of _ _ (p .1 .1 .1 .0))
 
 check-record-requires : tie.Need-check-record-requires
 check-record-requires c κs = search needs
 
-returns : tie.Need-returns
-unfolding putBackTests
-returns c = early (recordTests (c .before .before .before .before .before .before .before .before .before .args .r)) _ (record-numbered (c .before .before .before .before .before .before .before .before .before .args .r)) (c .before .before .check-record .ensures) (c .if1 .taken)
-
 check-turn-requires : tie.Need-check-turn-requires
-check-turn-requires c κs = valid-record (c .before .before .before .before .before .before .before .before .before .args .r) (c .before .before .check-record .ensures) (c .if1 .left)
-
-returns-2 : tie.Need-returns-2
-unfolding putBackTests countTest Numbered
-returns-2 c =
-    goes-on (recordTests (c .before .before .before .before .before .before .before .before .before .before .before .before .args .r)) _ (record-numbered (c .before .before .before .before .before .before .before .before .before .before .before .before .args .r)) (c .before .before .before .before .before .check-record .ensures) (c .before .before .before .if1 .left)
-    (early (_ ∷ _ ∷ _ ∷ []) _ (omega arith) (c .before .before .check-turn .ensures) (c .if2 .taken))
+check-turn-requires c κs = λ z. valid-record _ (c .check-record .ensures) z
 
 check-image-requires : tie.Need-check-image-requires
-check-image-requires c κs = record-limits (c .before .before .before .before .before .before .before .before .before .before .before .before .before .before .args .r) (c .before .before .before .before .before .before .before .check-record .ensures) (c .before .before .before .before .before .if1 .left)
+check-image-requires c κs = λ z. turn c z .0
 
-returns-3 : tie.Need-returns-3
-unfolding putBackTests pixelsOf countTest Numbered
-returns-3 c =
-    goes-on (recordTests (c .before .before .before .before .before .before .before .before .before .before .before .before .before .before .before .before .before .args .r)) _ (record-numbered (c .before .before .before .before .before .before .before .before .before .before .before .before .before .before .before .before .before .args .r)) (c .before .before .before .before .before .before .before .before .before .before .check-record .ensures) (c .before .before .before .before .before .before .before .before .if1 .left)
-    (goes-on (_ ∷ _ ∷ _ ∷ []) _ (omega arith) (c .before .before .before .before .before .before .before .check-turn .ensures) (c .before .before .before .before .before .if2 .left)
-    (early (_ ∷ _ ∷ _ ∷ []) _ (omega arith) (c .before .before .check-image .ensures) (c .if3 .taken)))
-
-tile-count-requires : tie.Need-tile-count-requires
-tile-count-requires c κs = record-limits (c .before .before .before .before .before .before .before .before .before .before .before .before .before .before .before .before .before .args .r) (c .before .before .before .before .before .before .before .before .before .before .check-record .ensures) (c .before .before .before .before .before .before .before .before .if1 .left)
-
-check-length-requires : tie.Need-check-length-requires
-check-length-requires c κs = search needs
+check-deltas-requires : tie.Need-check-deltas-requires
+check-deltas-requires c κs = λ z. image c z .0 .0
 
 check-copy-requires : tie.Need-check-copy-requires
-check-copy-requires c κs = (record-limits (c .before .before .before .before .before .before .before .before .before .before .before .before .before .before .before .before .before .before .before .args .r) (c .before .before .before .before .before .before .before .before .before .before .before .before .check-record .ensures) (c .before .before .before .before .before .before .before .before .before .before .if1 .left), turn-tile (c .before .before .before .before .before .before .before .before .before .before .before .before .before .before .before .before .before .before .before .args .r) (c .before .before .before .before .before .before .before .before .before .before .before .before .before .before .before .before .before .before .before .args .tile) (c .before .before .before .before .before .before .before .before .before .before .before .before .before .before .before .before .before .before .before .args .accepted) (c .before .before .before .before .before .before .before .before .before .check-turn .ensures) (c .before .before .before .before .before .before .before .if2 .left))
+unfolding Numbered
+check-copy-requires c κs = λ z. image (c .before) (passed _ (_ ∷ []) (omega arith) (c .check-deltas .ensures) z .0) .0
 
-shared-slice-read-refuse-if : tie.Need-shared-slice-read-refuse-if
-shared-slice-read-refuse-if c =
-    let T = c .before .before .before .before .before .before .before .before .before .before .before .before .before .before .before .before .before .before .before .before .before .args .r .plan .tiling in
-    let e = states-length (T .height * T .width) (length (c .before .before .before .before .before .before .before .before .before .before .before .before .before .before .before .before .before .before .before .before .before .args .indices .now)) (length (c .before .before .before .before .before .before .before .before .before .before .before .before .before .before .before .before .before .before .before .before .before .args .cpe .now)) (length (c .before .before .before .before .before .before .before .before .before .before .before .before .before .before .before .before .before .before .before .before .before .args .tile-states .now)) _ (c .before .before .before .before .before .before .check-image .ensures) (c .before .before .before .before .if3 .left) in
-    omega (arith, e, turn-tile (c .before .before .before .before .before .before .before .before .before .before .before .before .before .before .before .before .before .before .before .before .before .args .r) (c .before .before .before .before .before .before .before .before .before .before .before .before .before .before .before .before .before .before .before .before .before .args .tile) (c .before .before .before .before .before .before .before .before .before .before .before .before .before .before .before .before .before .before .before .before .before .args .accepted) (c .before .before .before .before .before .before .before .before .before .before .before .check-turn .ensures) (c .before .before .before .before .before .before .before .before .before .if2 .left))
-
-refuse-if-requires : tie.Need-refuse-if-requires
-refuse-if-requires c κs = search needs
+check-state-requires : tie.Need-check-state-requires
+unfolding Numbered
+check-state-requires c κs =
+    λ z.
+    let copy = passed _ (_ ∷ _ ∷ []) (omega arith) (c .check-copy .ensures) z .0 in
+    let q = image (c .before .before) (passed _ (_ ∷ []) (omega arith) (c .before .check-deltas .ensures) copy .0) in
+    omega (arith, q .0 .1, q .1)
 
 check-named-requires : tie.Need-check-named-requires
 check-named-requires c κs = search needs
 
-first-refusal-requires : tie.Need-first-refusal-requires
-first-refusal-requires c κs = search needs
-
-first-refusal-requires-2 : tie.Need-first-refusal-requires-2
-first-refusal-requires-2 c κs = search needs
-
-first-refusal-requires-3 : tie.Need-first-refusal-requires-3
-first-refusal-requires-3 c κs = search needs
-
-returns-4 : tie.Need-returns-4
-unfolding putBackTests pixelsOf countTest isOut Numbered
-returns-4 c =
-    goes-on (recordTests (c .before .before .before .before .before .before .before .before .before .before .before .before .before .before .before .before .before .before .before .before .before .before .before .before .before .before .args .r)) _ (record-numbered (c .before .before .before .before .before .before .before .before .before .before .before .before .before .before .before .before .before .before .before .before .before .before .before .before .before .before .args .r)) (c .before .before .before .before .before .before .before .before .before .before .before .before .before .before .before .before .before .before .before .check-record .ensures) (c .before .before .before .before .before .before .before .before .before .before .before .before .before .before .before .before .before .if1 .left)
-    (goes-on (_ ∷ _ ∷ _ ∷ []) _ (omega arith) (c .before .before .before .before .before .before .before .before .before .before .before .before .before .before .before .before .check-turn .ensures) (c .before .before .before .before .before .before .before .before .before .before .before .before .before .before .if2 .left)
-    (goes-on (_ ∷ _ ∷ _ ∷ []) _ (omega arith) (c .before .before .before .before .before .before .before .before .before .before .before .check-image .ensures) (c .before .before .before .before .before .before .before .before .before .if3 .left)
-    (c .first-refusal3 .ensures
-    ∙ also (_ ∷ []) _ (omega arith) (c .before .before .before .before .before .before .before .check-length .ensures ∙ ap (λ n. judge (lengthTest 5 (length (c .before .before .before .before .before .before .before .before .before .before .before .before .before .before .before .before .before .before .before .before .before .before .before .before .before .before .args .deltas .now)) n ∷ [])) (c .before .before .before .before .before .before .before .before .tile-count .ensures))
-    (c .before .first-refusal2 .ensures
-    ∙ also (_ ∷ _ ∷ []) _ (omega arith) (c .before .before .before .before .before .before .check-copy .ensures) (c .before .before .first-refusal .ensures ∙ also (_ ∷ []) _ (omega arith) (c .before .before .before .before .refuse-if .ensures) (c .before .before .before .check-named .ensures))))))
+returns : tie.Need-returns
+unfolding putBackTests pixelsOf isOut countTest copyTest Numbered
+returns c = after-record _ (_ ∷ _ ∷ _ ∷ _ ∷ _ ∷ _ ∷ _ ∷ _ ∷ _ ∷ _ ∷ _ ∷ []) (omega arith) (rw (c .check-named .ensures, c .before .check-state .ensures, c .before .before .check-copy .ensures, c .before .before .before .check-deltas .ensures, c .before .before .before .before .check-image .ensures, c .before .before .before .before .before .check-turn .ensures, c .before .before .before .before .before .before .check-record .ensures))
 
 pub check-put-back-spec : {M : Type 1} → statement M
 check-put-back-spec =
     tie.close
     (tie.spec
     check-record-requires
-    returns
     check-turn-requires
-    returns-2
     check-image-requires
-    returns-3
-    tile-count-requires
-    check-length-requires
+    check-deltas-requires
     check-copy-requires
-    shared-slice-read-refuse-if
-    refuse-if-requires
+    check-state-requires
     check-named-requires
-    first-refusal-requires
-    first-refusal-requires-2
-    first-refusal-requires-3
-    returns-4)
+    returns)

@@ -1,38 +1,28 @@
--- `check_turn` meets its contract: the tests are made one by one. Assumes nothing.
-use native.Mathlib.Omega.{arith}
-use mathlib.Core.Path.{_≡_, ap, _∙_}
+-- `check_turn` meets its contract: it makes the tests one after the other, where none has failed. Assumes nothing.
 use mathlib.Core.List.{[], _∷_}
-use Rattle.base.specs.Refusal.{test, judge}
-use Rattle.base.proofs.RefusalLaws.{Numbered}
-use Rattle.base.proofs.JudgeLaws.{also}
+use Rattle.base.proofs.JudgeLaws.{stays}
 use Rattle.job.specs.PutBack.{countTest}
 use Rattle.records.proofs.RecordLaws.{limits-of}
 use borrow.Author.Needs.{needs}
 use Rattle.putback.proofs.check_turn.Statement.{statement}
 use Rattle.putback.proofs.check_turn.Tie as tie
 
-is-over-requires : tie.Need-is-over-requires
-is-over-requires c κs = search needs
+returns : tie.Need-returns
+returns c = stays _ (_ ∷ _ ∷ _ ∷ []) (c .if1 .taken)
 
-refuse-if-requires : tie.Need-refuse-if-requires
-refuse-if-requires c κs = search needs
+is-over-requires : tie.Need-is-over-requires
+is-over-requires c κs = c .before .before .pre (c .if1 .left)
+
+next-requires : tie.Need-next-requires
+next-requires c κs = search needs
 
 check-turn-requires : tie.Need-check-turn-requires
-check-turn-requires c κs = limits-of (c .before .before .args .r) (c .before .before .pre)
+check-turn-requires c κs = λ z. limits-of _ (c .before .before .before .before .pre (c .before .before .if1 .left))
 
-first-refusal-requires : tie.Need-first-refusal-requires
-first-refusal-requires c κs = search needs
-
-returns : tie.Need-returns
-unfolding countTest Numbered
-returns c = c .first-refusal .ensures ∙ also (_ ∷ []) _ (omega arith) (c .before .before .refuse-if .ensures ∙ ap (λ b. judge (test b 12 0 ∷ [])) (c .before .before .before .is-over .ensures)) (c .before .check-turn .ensures)
+returns-2 : tie.Need-returns-2
+unfolding countTest
+returns-2 c = cc
 
 pub check-turn-spec : {M : Type 1} → statement M
 check-turn-spec =
-    tie.close
-    (tie.spec
-    is-over-requires
-    refuse-if-requires
-    check-turn-requires
-    first-refusal-requires
-    returns)
+    tie.close (tie.spec returns is-over-requires next-requires check-turn-requires returns-2)

@@ -1,38 +1,37 @@
--- `check_copy` meets its contract: the tests are made one by one. Assumes nothing.
+-- `check_copy` meets its contract: it makes the tests one after the other, where none has failed. Assumes nothing.
+use mathlib.Core.List.{[], _∷_}
 use native.Mathlib.Omega.{arith}
-use Rattle.base.proofs.RefusalLaws.{Numbered}
-use Rattle.base.proofs.JudgeLaws.{one-by-one}
+use Rattle.base.proofs.JudgeLaws.{stays}
 use Rattle.tiling.proofs.Sizes.{region-area-limit}
 use borrow.Author.Needs.{needs}
 use Rattle.records.proofs.check_copy.Statement.{statement}
 use Rattle.records.proofs.check_copy.Tie as tie
 
-region-size-requires : tie.Need-region-size-requires
-region-size-requires c κs = search needs
-
-mul-check-length : tie.Need-mul-check-length
-mul-check-length c = let a = c .before .args in omega (arith, c .region-size .ensures, region-area-limit (a .t) (c .before .pre .0) (a .tile))
-
-check-length-requires : tie.Need-check-length-requires
-check-length-requires c κs = search needs
-
-check-length-requires-2 : tie.Need-check-length-requires-2
-check-length-requires-2 c κs = search needs
-
-first-refusal-requires : tie.Need-first-refusal-requires
-first-refusal-requires c κs = search needs
-
 returns : tie.Need-returns
-unfolding Numbered
-returns c = rw (c .first-refusal .ensures, c .before .check-length2 .ensures, c .before .before .check-length .ensures, c .before .before .before .region-size .ensures) (one-by-one _ (omega arith))
+returns c = stays _ (_ ∷ _ ∷ []) (c .if1 .taken)
+
+region-size-requires : tie.Need-region-size-requires
+region-size-requires c κs = c .before .before .pre (c .if1 .left)
+
+mul-next-length : tie.Need-mul-next-length
+mul-next-length c = let a = c .before .before .before .args in omega (arith, c .region-size .ensures, region-area-limit (a .t) (c .before .before .before .pre (c .before .if1 .left) .0) (a .tile))
+
+next-length-requires : tie.Need-next-length-requires
+next-length-requires c κs = search needs
+
+next-length-requires-2 : tie.Need-next-length-requires-2
+next-length-requires-2 c κs = search needs
+
+returns-2 : tie.Need-returns-2
+returns-2 c = cc
 
 pub check-copy-spec : {M : Type 1} → statement M
 check-copy-spec =
     tie.close
     (tie.spec
+    returns
     region-size-requires
-    mul-check-length
-    check-length-requires
-    check-length-requires-2
-    first-refusal-requires
-    returns)
+    mul-next-length
+    next-length-requires
+    next-length-requires-2
+    returns-2)

@@ -1,50 +1,45 @@
--- `check_image` meets its contract: the tests are made one by one, and sides of at most 4,096 have a product that does not wrap. Assumes nothing.
+-- `check_image` meets its contract: where no test has failed, sides of at most 4,096 have a product that does not wrap. Assumes nothing.
+use mathlib.Core.List.{[], _∷_}
 use native.Mathlib.Omega.{arith}
 use Rattle.base.proofs.Bounds.{image-product}
-use Rattle.base.proofs.RefusalLaws.{Numbered}
-use Rattle.base.proofs.JudgeLaws.{one-by-one}
+use Rattle.base.proofs.JudgeLaws.{stays}
 use borrow.Author.Needs.{needs}
 use Rattle.records.proofs.check_image.Statement.{statement}
 use Rattle.records.proofs.check_image.Tie as tie
 
+returns : tie.Need-returns
+returns c = stays _ (_ ∷ _ ∷ _ ∷ []) (c .if1 .taken)
+
 mul-n : tie.Need-mul-n
-mul-n c = let t = c .before .args .t in omega (arith, image-product (t .height) (t .width) (c .before .pre .height-limit) (c .before .pre .width-limit))
+mul-n c = let t = c .before .before .before .args .t in let l = c .before .before .before .pre (c .before .if1 .left) in omega (arith, image-product (t .height) (t .width) (l .height-limit) (l .width-limit))
 
-refuse-if-requires : tie.Need-refuse-if-requires
-refuse-if-requires c κs = search needs
+next-requires : tie.Need-next-requires
+next-requires c κs = search needs
 
-mul-check-length : tie.Need-mul-check-length
-mul-check-length c = let t = c .before .before .args .t in omega (arith, image-product (t .height) (t .width) (c .before .before .pre .height-limit) (c .before .before .pre .width-limit))
+mul-next-length : tie.Need-mul-next-length
+mul-next-length c = let t = c .before .before .before .before .args .t in let l = c .before .before .before .before .pre (c .before .before .if1 .left) in omega (arith, image-product (t .height) (t .width) (l .height-limit) (l .width-limit))
 
-check-length-requires : tie.Need-check-length-requires
-check-length-requires c κs = search needs
+next-length-requires : tie.Need-next-length-requires
+next-length-requires c κs = search needs
 
 tile-count-requires : tie.Need-tile-count-requires
-tile-count-requires c κs = search needs
+tile-count-requires c κs = c .before .before .before .before .before .pre (c .before .before .before .if1 .left)
 
-check-length-requires-2 : tie.Need-check-length-requires-2
-check-length-requires-2 c κs = search needs
+next-length-requires-2 : tie.Need-next-length-requires-2
+next-length-requires-2 c κs = search needs
 
-first-refusal-requires : tie.Need-first-refusal-requires
-first-refusal-requires c κs = search needs
-
-first-refusal-requires-2 : tie.Need-first-refusal-requires-2
-first-refusal-requires-2 c κs = search needs
-
-returns : tie.Need-returns
-unfolding Numbered
-returns c = rw (c .first-refusal2 .ensures, c .before .first-refusal .ensures, c .before .before .check-length2 .ensures, c .before .before .before .tile-count .ensures, c .before .before .before .before .check-length .ensures, c .before .before .before .before .before .refuse-if .ensures) (one-by-one _ (omega arith))
+returns-2 : tie.Need-returns-2
+returns-2 c = cc
 
 pub check-image-spec : {M : Type 1} → statement M
 check-image-spec =
     tie.close
     (tie.spec
+    returns
     mul-n
-    refuse-if-requires
-    mul-check-length
-    check-length-requires
+    next-requires
+    mul-next-length
+    next-length-requires
     tile-count-requires
-    check-length-requires-2
-    first-refusal-requires
-    first-refusal-requires-2
-    returns)
+    next-length-requires-2
+    returns-2)

@@ -1,79 +1,58 @@
--- `check_take` meets its contract: the tests are made in groups, each only once those before it have passed. Assumes nothing.
-use Prim.Native.Nat.{_*_}
-use native.Mathlib.Omega.{arith}
-use mathlib.Core.Path.{_≡_, ap}
+-- `check_take` meets its contract: it makes the tests one after the other, and each part finds what it needs where those before it have passed. Assumes nothing.
+use Prim.Native.Nat.{_<_}
+use mathlib.Core.Path.{_≡_}
 use mathlib.Core.List.{[], _∷_}
-use lib.ListN.{length}
+use native.Mathlib.Omega.{arith}
+use Rattle.base.specs.Refusal.{Passes}
 use Rattle.base.proofs.RefusalLaws.{Numbered}
-use Rattle.base.proofs.JudgeLaws.{early, goes-on, then-one-by-one}
-use Rattle.job.specs.Record.{pixelsOf, recordTests, isWaiting}
+use lib.ListN.{length}
+use Rattle.tiling.specs.Tiling.{Limits, tiles}
+use Rattle.job.specs.Record.{pixelsOf, isWaiting}
 use Rattle.job.specs.Take.{takeTests}
-use Rattle.records.proofs.RecordLaws.{record-numbered, record-limits, turn-tile, states-length}
+use Rattle.job.proofs.Validity.{equal-of}
+use Rattle.records.proofs.RecordLaws.{record-limits, after-record, passed, turn-tile}
 use borrow.Author.Needs.{needs}
 use Rattle.take.proofs.check_take.Statement.{statement}
 use Rattle.take.proofs.check_take.Tie as tie
 
+limits : (c : tie.After-check-record) → c .check-record .result .number ≡ 0 → Limits (c .before .before .before .before .before .before .before .before .args .r .plan .tiling)
+limits c z = record-limits _ (c .check-record .ensures) z
+
+turn : (c : tie.After-check-turn) → c .check-turn .result .number ≡ 0 → let a = c .before .before .before .before .before .before .before .before .before .args in Limits (a .r .plan .tiling) × (a .tile < tiles (a .r .plan .tiling))
+turn c z = let p = turn-tile _ _ _ (c .check-turn .ensures) z in (limits (c .before) (p .0), p .1)
+
+image : (c : tie.After-check-image) → c .check-image .result .number ≡ 0 → let a = c .before .before .before .before .before .before .before .before .before .before .args in
+    (Limits (a .r .plan .tiling) × (a .tile < tiles (a .r .plan .tiling))) × (length (a .tile-states .now) ≡ tiles (a .r .plan .tiling))
+unfolding Numbered Passes
+image c z = let p = passed _ (_ ∷ _ ∷ _ ∷ []) (omega arith) (c .check-image .ensures) z in (turn (c .before) (p .0), equal-of _ _ (p .1 .1 .1 .0))
+
 check-record-requires : tie.Need-check-record-requires
 check-record-requires c κs = search needs
 
-returns : tie.Need-returns
-unfolding takeTests
-returns c = early (recordTests (c .before .before .before .before .before .before .before .before .args .r)) _ (record-numbered (c .before .before .before .before .before .before .before .before .args .r)) (c .before .before .check-record .ensures) (c .if1 .taken)
-
 check-turn-requires : tie.Need-check-turn-requires
-check-turn-requires c κs = record-limits (c .before .before .before .before .before .before .before .before .args .r) (c .before .before .check-record .ensures) (c .if1 .left)
-
-returns-2 : tie.Need-returns-2
-unfolding takeTests Numbered
-returns-2 c =
-    goes-on (recordTests (c .before .before .before .before .before .before .before .before .before .before .before .args .r)) _ (record-numbered (c .before .before .before .before .before .before .before .before .before .before .before .args .r)) (c .before .before .before .before .before .check-record .ensures) (c .before .before .before .if1 .left)
-    (early (_ ∷ _ ∷ []) _ (omega arith) (c .before .before .check-turn .ensures) (c .if2 .taken))
+check-turn-requires c κs = limits c
 
 check-image-requires : tie.Need-check-image-requires
-check-image-requires c κs = record-limits (c .before .before .before .before .before .before .before .before .before .before .before .before .before .args .r) (c .before .before .before .before .before .before .before .check-record .ensures) (c .before .before .before .before .before .if1 .left)
-
-returns-3 : tie.Need-returns-3
-unfolding takeTests pixelsOf Numbered
-returns-3 c =
-    goes-on (recordTests (c .before .before .before .before .before .before .before .before .before .before .before .before .before .before .before .before .args .r)) _ (record-numbered (c .before .before .before .before .before .before .before .before .before .before .before .before .before .before .before .before .args .r)) (c .before .before .before .before .before .before .before .before .before .before .check-record .ensures) (c .before .before .before .before .before .before .before .before .if1 .left)
-    (goes-on (_ ∷ _ ∷ []) _ (omega arith) (c .before .before .before .before .before .before .before .check-turn .ensures) (c .before .before .before .before .before .if2 .left)
-    (early (_ ∷ _ ∷ _ ∷ []) _ (omega arith) (c .before .before .check-image .ensures) (c .if3 .taken)))
+check-image-requires c κs = λ z. turn c z .0
 
 check-copy-requires : tie.Need-check-copy-requires
-check-copy-requires c κs = (record-limits (c .before .before .before .before .before .before .before .before .before .before .before .before .before .before .before .before .args .r) (c .before .before .before .before .before .before .before .before .before .before .check-record .ensures) (c .before .before .before .before .before .before .before .before .if1 .left), turn-tile (c .before .before .before .before .before .before .before .before .before .before .before .before .before .before .before .before .args .r) (c .before .before .before .before .before .before .before .before .before .before .before .before .before .before .before .before .args .tile) (c .before .before .before .before .before .before .before .check-turn .ensures) (c .before .before .before .before .before .if2 .left))
+check-copy-requires c κs = λ z. image c z .0
 
-shared-slice-read-refuse-if : tie.Need-shared-slice-read-refuse-if
-shared-slice-read-refuse-if c =
-    let T = c .before .before .before .before .before .before .before .before .before .before .before .before .before .before .before .before .before .before .args .r .plan .tiling in
-    let e = states-length (T .height * T .width) (length (c .before .before .before .before .before .before .before .before .before .before .before .before .before .before .before .before .before .before .args .indices .now)) (length (c .before .before .before .before .before .before .before .before .before .before .before .before .before .before .before .before .before .before .args .cpe .now)) (length (c .before .before .before .before .before .before .before .before .before .before .before .before .before .before .before .before .before .before .args .tile-states .now)) _ (c .before .before .before .before .check-image .ensures) (c .before .before .if3 .left) in
-    omega (arith, e, turn-tile (c .before .before .before .before .before .before .before .before .before .before .before .before .before .before .before .before .before .before .args .r) (c .before .before .before .before .before .before .before .before .before .before .before .before .before .before .before .before .before .before .args .tile) (c .before .before .before .before .before .before .before .before .before .check-turn .ensures) (c .before .before .before .before .before .before .before .if2 .left))
+check-state-requires : tie.Need-check-state-requires
+unfolding Numbered
+check-state-requires c κs = λ z. let q = image (c .before) (passed _ (_ ∷ _ ∷ []) (omega arith) (c .check-copy .ensures) z .0) in omega (arith, q .0 .1, q .1)
 
-refuse-if-requires : tie.Need-refuse-if-requires
-refuse-if-requires c κs = search needs
-
-first-refusal-requires : tie.Need-first-refusal-requires
-first-refusal-requires c κs = search needs
-
-returns-4 : tie.Need-returns-4
+returns : tie.Need-returns
 unfolding takeTests pixelsOf isWaiting Numbered
-returns-4 c =
-    goes-on (recordTests (c .before .before .before .before .before .before .before .before .before .before .before .before .before .before .before .before .before .before .before .before .args .r)) _ (record-numbered (c .before .before .before .before .before .before .before .before .before .before .before .before .before .before .before .before .before .before .before .before .args .r)) (c .before .before .before .before .before .before .before .before .before .before .before .before .before .before .check-record .ensures) (c .before .before .before .before .before .before .before .before .before .before .before .before .if1 .left)
-    (goes-on (_ ∷ _ ∷ []) _ (omega arith) (c .before .before .before .before .before .before .before .before .before .before .before .check-turn .ensures) (c .before .before .before .before .before .before .before .before .before .if2 .left)
-    (goes-on (_ ∷ _ ∷ _ ∷ []) _ (omega arith) (c .before .before .before .before .before .before .check-image .ensures) (c .before .before .before .before .if3 .left)
-    (rw (c .first-refusal .ensures, c .before .refuse-if .ensures, c .before .before .before .check-copy .ensures) (then-one-by-one _ (_ ∷ []) (omega arith) (omega arith)))))
+returns c = after-record _ (_ ∷ _ ∷ _ ∷ _ ∷ _ ∷ _ ∷ _ ∷ _ ∷ []) (omega arith) (rw (c .check-state .ensures, c .before .check-copy .ensures, c .before .before .check-image .ensures, c .before .before .before .check-turn .ensures, c .before .before .before .before .check-record .ensures))
 
 pub check-take-spec : {M : Type 1} → statement M
 check-take-spec =
     tie.close
     (tie.spec
     check-record-requires
-    returns
     check-turn-requires
-    returns-2
     check-image-requires
-    returns-3
     check-copy-requires
-    shared-slice-read-refuse-if
-    refuse-if-requires
-    first-refusal-requires
-    returns-4)
+    check-state-requires
+    returns)

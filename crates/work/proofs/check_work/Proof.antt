@@ -1,117 +1,48 @@
--- `check_work` meets its contract: the tests are made in groups, each only once those before it have passed. Assumes nothing.
-use Prim.Native.Nat.{ℕ}
-use native.Mathlib.Omega.{arith}
-use mathlib.Core.Path.{_≡_, sym, ap, _∙_}
-use mathlib.Core.Bool.{Bool, not}
+-- `check_work` meets its contract: it makes the tests one after the other, and each part finds what it needs where those before it have passed. Assumes nothing.
+use Prim.Native.Nat.{_<_}
+use mathlib.Core.Path.{_≡_}
 use mathlib.Core.List.{[], _∷_}
-use borrow.Author.Tests.{ltb-true, not-false}
-use Rattle.base.specs.declared.Status.{Status}
-use Rattle.base.specs.Refusal.{test, judge, Passes}
+use native.Mathlib.Omega.{arith}
 use Rattle.base.proofs.RefusalLaws.{Numbered}
-use Rattle.base.proofs.JudgeLaws.{also, early, goes-on, passes-of-zero}
+use borrow.Author.Tests.{not-false, ltb-true}
+use Rattle.base.specs.Refusal.{Passes}
 use Rattle.tiling.specs.Tiling.{tiles}
-use Rattle.job.specs.Record.{pixelsOf, recordTests}
-use Rattle.job.specs.Work.{workTests}
-use Rattle.records.proofs.RecordLaws.{record-numbered, valid-record, record-limits, record-few}
+use Rattle.job.specs.Valid.{ValidRecord}
+use Rattle.job.specs.Work.{copyTest, workTests}
+use Rattle.records.proofs.RecordLaws.{limits-of, valid-record, after-record, passed}
 use borrow.Author.Needs.{needs}
 use Rattle.work.proofs.check_work.Statement.{statement}
 use Rattle.work.proofs.check_work.Tie as tie
 
-unless : {a b : Bool} (n : ℕ) → a ≡ b → judge (test (not a) n 0 ∷ []) ≡ judge (test (not b) n 0 ∷ [])
-unless n e = ap (λ b. judge (test (not b) n 0 ∷ [])) e
+lent : (c : tie.After-check-lent) → c .check-lent .result .number ≡ 0 → let a = c .before .before .before .before .before .before .before .before .args in ValidRecord (a .r) × (a .tile < tiles (a .r .plan .tiling))
+unfolding Numbered Passes
+lent c z =
+    let p = passed _ (_ ∷ _ ∷ _ ∷ []) (omega arith) (c .check-lent .ensures) z in
+    (valid-record _ (c .before .check-record .ensures) (p .0), ltb-true _ _ (not-false _ (p .1 .0)))
 
 check-record-requires : tie.Need-check-record-requires
 check-record-requires c κs = search needs
 
-returns : tie.Need-returns
-unfolding workTests
-returns c = early (recordTests (c .before .before .before .before .before .before .before .before .args .r)) _ (record-numbered (c .before .before .before .before .before .before .before .before .args .r)) (c .before .before .check-record .ensures) (c .if1 .taken)
-
-has-tile-requires : tie.Need-has-tile-requires
-has-tile-requires c κs = record-limits (c .before .before .before .before .before .before .before .before .before .before .args .r) (c .before .before .before .before .check-record .ensures) (c .before .before .if1 .left)
-
-refuse-if-requires : tie.Need-refuse-if-requires
-refuse-if-requires c κs = search needs
-
-returns-2 : tie.Need-returns-2
-unfolding workTests Numbered
-returns-2 c =
-    goes-on (recordTests (c .before .before .before .before .before .before .before .before .before .before .before .before .before .before .args .r)) _ (record-numbered (c .before .before .before .before .before .before .before .before .before .before .before .before .before .before .args .r)) (c .before .before .before .before .before .before .before .before .check-record .ensures) (c .before .before .before .before .before .before .if1 .left)
-    (early (_ ∷ []) _ (omega arith) (c .before .before .refuse-if .ensures ∙ unless 13 (c .before .before .before .has-tile .ensures)) (c .if2 .taken))
-
-mul-is-mask : tie.Need-mul-is-mask
-unfolding pixelsOf
-mul-is-mask c = omega (arith, record-few (c .before .before .before .before .before .before .before .before .before .before .before .before .before .before .before .args .r) (c .before .before .before .before .before .before .before .before .before .check-record .ensures) (c .before .before .before .before .before .before .before .if1 .left))
-
-is-mask-requires : tie.Need-is-mask-requires
-is-mask-requires c κs = search needs
-
-refuse-if-requires-2 : tie.Need-refuse-if-requires-2
-refuse-if-requires-2 c κs = search needs
-
-check-length-requires : tie.Need-check-length-requires
-check-length-requires c κs = search needs
+check-lent-requires : tie.Need-check-lent-requires
+check-lent-requires c κs = λ z. valid-record _ (c .check-record .ensures) z
 
 check-copy-requires : tie.Need-check-copy-requires
-unfolding Numbered Passes
-check-copy-requires c κs =
-    let e = c .before .before .before .before .before .before .refuse-if .ensures ∙ unless 13 (c .before .before .before .before .before .before .before .has-tile .ensures) in
-    let p = passes-of-zero (_ ∷ []) (omega arith) (ap (λ (s : Status). s .number) (sym e) ∙ c .before .before .before .before .if2 .left) in
-    (record-limits (c .before .before .before .before .before .before .before .before .before .before .before .before .before .before .before .before .before .before .args .r) (c .before .before .before .before .before .before .before .before .before .before .before .before .check-record .ensures) (c .before .before .before .before .before .before .before .before .before .before .if1 .left), ltb-true _ _ (not-false _ (p .0)))
+check-copy-requires c κs = λ z. let p = lent c z in (limits-of _ (p .0), p .1)
 
-mul-check-length : tie.Need-mul-check-length
-mul-check-length c = omega (arith, valid-record (c .before .before .before .before .before .before .before .before .before .before .before .before .before .before .before .before .before .before .before .args .r) (c .before .before .before .before .before .before .before .before .before .before .before .before .before .check-record .ensures) (c .before .before .before .before .before .before .before .before .before .before .before .if1 .left) .inks-most)
+check-inks-requires : tie.Need-check-inks-requires
+unfolding Numbered
+check-inks-requires c κs = λ z. lent (c .before) (passed _ (_ ∷ _ ∷ []) (omega arith) (c .check-copy .ensures) z .0) .0
 
-check-length-requires-2 : tie.Need-check-length-requires-2
-check-length-requires-2 c κs = search needs
-
-check-named-requires : tie.Need-check-named-requires
-check-named-requires c κs = search needs
-
-first-refusal-requires : tie.Need-first-refusal-requires
-first-refusal-requires c κs = search needs
-
-first-refusal-requires-2 : tie.Need-first-refusal-requires-2
-first-refusal-requires-2 c κs = search needs
-
-first-refusal-requires-3 : tie.Need-first-refusal-requires-3
-first-refusal-requires-3 c κs = search needs
-
-first-refusal-requires-4 : tie.Need-first-refusal-requires-4
-first-refusal-requires-4 c κs = search needs
-
-returns-3 : tie.Need-returns-3
-unfolding workTests pixelsOf Numbered
-returns-3 c =
-    goes-on (recordTests (c .before .before .before .before .before .before .before .before .before .before .before .before .before .before .before .before .before .before .before .before .before .before .before .before .before .args .r)) _ (record-numbered (c .before .before .before .before .before .before .before .before .before .before .before .before .before .before .before .before .before .before .before .before .before .before .before .before .before .args .r)) (c .before .before .before .before .before .before .before .before .before .before .before .before .before .before .before .before .before .before .before .check-record .ensures) (c .before .before .before .before .before .before .before .before .before .before .before .before .before .before .before .before .before .if1 .left)
-    (goes-on (_ ∷ []) _ (omega arith) (c .before .before .before .before .before .before .before .before .before .before .before .before .before .refuse-if .ensures ∙ unless 13 (c .before .before .before .before .before .before .before .before .before .before .before .before .before .before .has-tile .ensures)) (c .before .before .before .before .before .before .before .before .before .before .before .if2 .left)
-    (c .first-refusal4 .ensures
-    ∙ also (_ ∷ []) _ (omega arith) (c .before .before .before .before .before .before .before .before .refuse-if2 .ensures ∙ unless 4 (c .before .before .before .before .before .before .before .before .before .is-mask .ensures))
-    (c .before .first-refusal3 .ensures
-    ∙ also (_ ∷ []) _ (omega arith) (c .before .before .before .before .before .before .before .check-length .ensures)
-    (c .before .before .first-refusal2 .ensures
-    ∙ also (_ ∷ _ ∷ []) _ (omega arith) (c .before .before .before .before .before .before .check-copy .ensures)
-    (c .before .before .before .first-refusal .ensures ∙ also (_ ∷ []) _ (omega arith) (c .before .before .before .before .before .check-length2 .ensures) (c .before .before .before .before .check-named .ensures))))))
+returns : tie.Need-returns
+unfolding workTests copyTest Numbered
+returns c = after-record _ (_ ∷ _ ∷ _ ∷ _ ∷ _ ∷ _ ∷ _ ∷ []) (omega arith) (cc)
 
 pub check-work-spec : {M : Type 1} → statement M
 check-work-spec =
     tie.close
     (tie.spec
     check-record-requires
-    returns
-    has-tile-requires
-    refuse-if-requires
-    returns-2
-    mul-is-mask
-    is-mask-requires
-    refuse-if-requires-2
-    check-length-requires
+    check-lent-requires
     check-copy-requires
-    mul-check-length
-    check-length-requires-2
-    check-named-requires
-    first-refusal-requires
-    first-refusal-requires-2
-    first-refusal-requires-3
-    first-refusal-requires-4
-    returns-3)
+    check-inks-requires
+    returns)
