@@ -5,64 +5,12 @@
 use lists::Given;
 use perceived::Measured;
 use refine::DbsStats;
+ghost use Prim.Native.Nat.{_<_, _≤_};
+ghost use lib.ListN.{length};
 
 const STDIN: i32 = 0;
 
 const STDOUT: i32 = 1;
-
-fn fill(x: &mut [f64]) {
-    for i in 0..x.len() {
-        x[i] = -1.0;
-    }
-}
-
-fn fill_bytes(bytes: &mut [u8]) {
-    for i in 0..bytes.len() {
-        bytes[i] = 255;
-    }
-}
-
-fn fill_counts(counts: &mut [u32]) {
-    for i in 0..counts.len() {
-        counts[i] = 4294967295;
-    }
-}
-
-fn fill_words(words: &mut [u64]) {
-    for i in 0..words.len() {
-        words[i] = 0xffff_ffff_ffff_ffff;
-    }
-}
-
-// A run finds each cell of its buffers set.
-fn fresh_run(
-    given: &mut [u8],
-    cpe: &mut [f64],
-    cpp: &mut [f64],
-    counts: &mut [u32],
-    inks: &mut [f64],
-) {
-    fill_bytes(given);
-    fill(cpe);
-    fill(cpp);
-    fill_counts(counts);
-    fill(inks);
-}
-
-// And a job of the others.
-fn fresh_job(
-    states: &mut [u8],
-    deltas: &mut [f64],
-    record: &mut [u64],
-    copy_cpe: &mut [f64],
-    copy_indices: &mut [u8],
-) {
-    fill_bytes(states);
-    fill(deltas);
-    fill_words(record);
-    fill(copy_cpe);
-    fill_bytes(copy_indices);
-}
 
 // The count of a pass, if it was run.
 fn print_count(count: u32, pass: usize, passes: u64) {
@@ -188,13 +136,10 @@ fn calls<'a>(
         let line = &text[at..end];
         at = end + 1;
         if lines::begins(line, b"call") {
-            fresh_run(given, cpe, cpp, counts, inks);
             let g = lists::read_given(line, given);
             refine(line, g, given, copy_indices, cpe, cpp, counts, inks);
             measure(line, g, given);
         } else if lines::begins(line, b"open") {
-            fresh_run(given, cpe, cpp, counts, inks);
-            fresh_job(states, deltas, record, copy_cpe, copy_indices);
             let g = lists::read_given(line, given);
             lists::open(
                 line,
@@ -234,21 +179,20 @@ fn calls<'a>(
     record
 }
 
-fn main() {
-    let mut text = io::large_buffer();
-    let n = io::read_full(STDIN, &mut text);
-    let mut given = [0u8; 4096];
-    let mut cpe = [0.0f64; 1024];
-    let mut cpp = [0.0f64; 8500];
-    let mut counts = [0u32; 1024];
-    let mut inks = [0.0f64; 1024];
-    let mut states = [0u8; 64];
-    let mut deltas = [0.0f64; 64];
-    let mut record = [0u64; 16];
-    let mut copy_cpe = [0.0f64; 3072];
-    let mut copy_indices = [0u8; 1024];
+// A list, which begins with an open, or a call. It finds each cell of every buffer set.
+fn list(text: &[u8]) {
+    let mut given = [255u8; 4096];
+    let mut cpe = [-1.0f64; 1024];
+    let mut cpp = [-1.0f64; 8500];
+    let mut counts = [4294967295u32; 1024];
+    let mut inks = [-1.0f64; 1024];
+    let mut states = [255u8; 64];
+    let mut deltas = [-1.0f64; 64];
+    let mut record = [0xffff_ffff_ffff_ffffu64; 16];
+    let mut copy_cpe = [-1.0f64; 3072];
+    let mut copy_indices = [255u8; 1024];
     calls(
-        &text[..n],
+        text,
         &mut given,
         &mut cpe,
         &mut cpp,
@@ -260,4 +204,41 @@ fn main() {
         &mut copy_cpe,
         &mut copy_indices,
     );
+}
+
+// Whether a list or a call begins here: no word but the first of a line has these letters.
+fn begins_list(text: &[u8], at: usize) -> bool {
+    if at >= text.len() {
+        return false;
+    }
+    let line = &text[at..];
+    lines::begins(line, b"open") || lines::begins(line, b"call")
+}
+
+// Where the list ends that begins here.
+fn list_end(text: &[u8], from: usize) -> usize
+    requires { ⌜ from < length (now text) ⌝ }
+    ensures { λ r. ⌜ (from < r) × (r ≤ length (now (text .entry))) ⌝ }
+{
+    for i in from + 1..text.len() {
+        if begins_list(text, i) {
+            return i;
+        }
+    }
+    text.len()
+}
+
+fn all_lists(text: &[u8]) {
+    let mut at = 0;
+    while at < text.len() {
+        let end = list_end(text, at);
+        list(&text[at..end]);
+        at = end;
+    }
+}
+
+fn main() {
+    let mut text = io::large_buffer();
+    let n = io::read_full(STDIN, &mut text);
+    all_lists(&text[..n]);
 }
