@@ -116,6 +116,51 @@ fn measure(line: &[u8], g: Given, given: &[u8]) {
     print_measured(m);
 }
 
+fn call_in(
+    text: &[u8],
+    given: &mut [u8],
+    indices: &mut [u8],
+    cpe: &mut [f64],
+    cpp: &mut [f64],
+    counts: &mut [u32],
+    inks: &mut [f64],
+) {
+    let from = 0;
+    let end = lines::line_end(text, from);
+    let line = &text[from..end];
+    let g = lists::read_given(line, given);
+    refine(line, g, given, indices, cpe, cpp, counts, inks);
+    measure(line, g, given);
+}
+
+// A call finds each cell of every buffer set.
+fn call(text: &[u8]) {
+    let mut given = [255u8; 4096];
+    let mut indices = [255u8; 1024];
+    let mut cpe = [-1.0f64; 1024];
+    let mut cpp = [-1.0f64; 8500];
+    let mut counts = [4294967295u32; 1024];
+    let mut inks = [-1.0f64; 1024];
+    call_in(
+        text,
+        &mut given,
+        &mut indices,
+        &mut cpe,
+        &mut cpp,
+        &mut counts,
+        &mut inks,
+    );
+}
+
+// A letter that tells the lines of a list apart: the first, or of word and work the last.
+fn kind(line: &[u8]) -> u8 {
+    let first = lines::byte_at(line, 0);
+    if first == b'w' {
+        return lines::byte_at(line, 3);
+    }
+    first
+}
+
 // The answer is at the buffers' lifetime: they are lent for good, and nothing is owed of their lengths.
 fn calls<'a>(
     text: &[u8],
@@ -135,11 +180,8 @@ fn calls<'a>(
         let end = lines::line_end(text, at);
         let line = &text[at..end];
         at = end + 1;
-        if lines::begins(line, b"call") {
-            let g = lists::read_given(line, given);
-            refine(line, g, given, copy_indices, cpe, cpp, counts, inks);
-            measure(line, g, given);
-        } else if lines::begins(line, b"open") {
+        let kind = kind(line);
+        if kind == b'o' {
             let g = lists::read_given(line, given);
             lists::open(
                 line,
@@ -153,11 +195,11 @@ fn calls<'a>(
                 deltas,
                 record,
             );
-        } else if lines::begins(line, b"take") {
+        } else if kind == b't' {
             lists::take(line, given, cpe, states, record, copy_cpe, copy_indices);
-        } else if lines::begins(line, b"work") {
+        } else if kind == b'k' {
             lists::work(line, given, cpp, inks, record, copy_cpe, copy_indices);
-        } else if lines::begins(line, b"put_") {
+        } else if kind == b'p' {
             lists::put_back(
                 line,
                 given,
@@ -168,9 +210,9 @@ fn calls<'a>(
                 copy_cpe,
                 copy_indices,
             );
-        } else if lines::begins(line, b"clos") {
+        } else if kind == b'c' {
             lists::close(line, counts, states, deltas, record);
-        } else if lines::begins(line, b"word") {
+        } else if kind == b'd' {
             lists::set_word(line, record);
         } else {
             lists::set_index(line, copy_indices);
@@ -179,7 +221,7 @@ fn calls<'a>(
     record
 }
 
-// A list, which begins with an open, or a call. It finds each cell of every buffer set.
+// A list, which begins with an open, finds each cell of every buffer set.
 fn list(text: &[u8]) {
     let mut given = [255u8; 4096];
     let mut cpe = [-1.0f64; 1024];
@@ -215,7 +257,7 @@ fn begins_list(text: &[u8], at: usize) -> bool {
     lines::begins(line, b"open") || lines::begins(line, b"call")
 }
 
-// Where the list ends that begins here.
+// Where the list or the call ends that begins here.
 fn list_end(text: &[u8], from: usize) -> usize
     requires { ⌜ from < length (now text) ⌝ }
     ensures { λ r. ⌜ (from < r) × (r ≤ length (now (text .entry))) ⌝ }
@@ -232,8 +274,13 @@ fn all_lists(text: &[u8]) {
     let mut at = 0;
     while at < text.len() {
         let end = list_end(text, at);
-        list(&text[at..end]);
+        let part = &text[at..end];
         at = end;
+        if lines::byte_at(part, 0) == b'c' {
+            call(part);
+        } else {
+            list(part);
+        }
     }
 }
 
