@@ -1,5 +1,5 @@
 // The lines of compare/replay.txt: words separated by one space, numbers, floats by their bits, bytes of two
-// digits; and their like written.
+// digits; parts of buffers, as long as a word says; and their like written.
 ghost use Prim.Native.Nat.{_<_, _≤_};
 ghost use lib.ListN.{length};
 
@@ -122,6 +122,96 @@ pub fn clamp(n: u64, most: usize) -> usize
     ensures { λ r. ⌜ r ≤ most ⌝ }
 {
     if n < most as u64 { n as usize } else { most }
+}
+
+// Whether the line begins with these four bytes.
+pub fn begins(line: &[u8], name: &[u8; 4]) -> bool {
+    byte_at(line, 0) == name[0]
+        && byte_at(line, 1) == name[1]
+        && byte_at(line, 2) == name[2]
+        && byte_at(line, 3) == name[3]
+}
+
+// Where a part ends that begins at `from` and is as long as word k says, in a buffer of so many cells.
+fn part_end(line: &[u8], k: usize, from: usize, most: usize) -> usize
+    requires { ⌜ from ≤ most ⌝ }
+    ensures { λ r. ⌜ (from ≤ r) × (r ≤ most) ⌝ }
+{
+    from + clamp(number(line, k), most - from)
+}
+
+// The part of a buffer that begins at `from` and is as long as word k says, as far as the buffer goes.
+pub fn floats<'a>(line: &[u8], k: usize, buffer: &'a mut [f64], from: usize) -> &'a mut [f64] {
+    let a = clamp(from as u64, buffer.len());
+    let e = part_end(line, k, a, buffer.len());
+    &mut buffer[a..e]
+}
+
+pub fn seen_floats<'a>(line: &[u8], k: usize, buffer: &'a [f64], from: usize) -> &'a [f64] {
+    let a = clamp(from as u64, buffer.len());
+    let e = part_end(line, k, a, buffer.len());
+    &buffer[a..e]
+}
+
+pub fn part<'a>(line: &[u8], k: usize, buffer: &'a mut [u8], from: usize) -> &'a mut [u8] {
+    let a = clamp(from as u64, buffer.len());
+    let e = part_end(line, k, a, buffer.len());
+    &mut buffer[a..e]
+}
+
+pub fn seen_part<'a>(line: &[u8], k: usize, buffer: &'a [u8], from: usize) -> &'a [u8] {
+    let a = clamp(from as u64, buffer.len());
+    let e = part_end(line, k, a, buffer.len());
+    &buffer[a..e]
+}
+
+pub fn counts<'a>(line: &[u8], k: usize, buffer: &'a mut [u32]) -> &'a mut [u32] {
+    let a = 0;
+    let e = part_end(line, k, a, buffer.len());
+    &mut buffer[a..e]
+}
+
+pub fn seen_counts<'a>(line: &[u8], k: usize, buffer: &'a [u32]) -> &'a [u32] {
+    let a = 0;
+    let e = part_end(line, k, a, buffer.len());
+    &buffer[a..e]
+}
+
+pub fn words<'a>(line: &[u8], k: usize, buffer: &'a mut [u64]) -> &'a mut [u64] {
+    let a = 0;
+    let e = part_end(line, k, a, buffer.len());
+    &mut buffer[a..e]
+}
+
+pub fn seen_words<'a>(line: &[u8], k: usize, buffer: &'a [u64]) -> &'a [u64] {
+    let a = 0;
+    let e = part_end(line, k, a, buffer.len());
+    &buffer[a..e]
+}
+
+// So many bytes of a buffer from `from` on, as far as it goes.
+fn span(buffer: &mut [u8], from: usize, n: usize) -> &mut [u8] {
+    let a = clamp(from as u64, buffer.len());
+    let e = a + clamp(n as u64, buffer.len() - a);
+    &mut buffer[a..e]
+}
+
+pub fn seen_span(buffer: &[u8], from: usize, n: usize) -> &[u8] {
+    let a = clamp(from as u64, buffer.len());
+    let e = a + clamp(n as u64, buffer.len() - a);
+    &buffer[a..e]
+}
+
+// Puts the bytes of word k into the buffer, from `from` on and at most so many, and says how many.
+pub fn read(line: &[u8], k: usize, buffer: &mut [u8], from: usize, most: usize) -> usize {
+    bytes(line, k, span(buffer, from, most))
+}
+
+// Reads the bytes of word k into the buffer, and lends them.
+pub fn read_part<'a>(line: &[u8], k: usize, buffer: &'a mut [u8]) -> &'a mut [u8] {
+    let a = 0;
+    let e = bytes(line, k, buffer);
+    &mut buffer[a..e]
 }
 
 pub fn space() {

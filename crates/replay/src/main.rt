@@ -2,6 +2,7 @@
 // answers in that file's form, to be held to the copy of the Rust. What it reads and must write is made by
 //   grep -E '^(call|open|take|work|put_back|close|word|index) ' compare/replay.txt > crates/replay/stdin
 //   grep -E '^(refine|measure|opened|taken|worked|back|closed) ' compare/replay.txt > crates/replay/stdout
+use lists::Given;
 use perceived::Measured;
 use refine::DbsStats;
 ghost use Prim.Native.Nat.{_<_, _≤_};
@@ -10,45 +11,6 @@ ghost use lib.ListN.{length};
 const STDIN: i32 = 0;
 
 const STDOUT: i32 = 1;
-
-// Words of a call, counted from 0.
-const WIDTH: usize = 1;
-
-const HEIGHT: usize = 2;
-
-const MAX_PASSES: usize = 3;
-
-const PPI: usize = 4;
-
-const DISTANCE: usize = 5;
-
-const PIXELS: usize = 6;
-
-const PALETTE: usize = 7;
-
-const PINNED: usize = 8;
-
-const INDICES: usize = 9;
-
-const CPE: usize = 10;
-
-const CPP: usize = 11;
-
-const COUNTS: usize = 12;
-
-const INKS: usize = 13;
-
-fn fill(x: &mut [f64]) {
-    for i in 0..x.len() {
-        x[i] = -1.0;
-    }
-}
-
-fn fill_counts(counts: &mut [u32]) {
-    for i in 0..counts.len() {
-        counts[i] = 4294967295;
-    }
-}
 
 // The count of a pass, if it was run.
 fn print_count(count: u32, pass: usize, passes: u64) {
@@ -91,10 +53,10 @@ fn print_buffers(
     lines::print_bytes(indices);
     lines::space();
     print_counts(counts, passes);
-    lines::print_sum(checksum::floats(0, cpe));
-    lines::print_sum(checksum::floats(0, cpp));
+    lists::print_floats(cpe);
+    lists::print_floats(cpp);
     lines::print_sum(checksum::counts(counts));
-    lines::print_sum(checksum::floats(0, inks));
+    lists::print_floats(inks);
     lines::end_line();
 }
 
@@ -106,306 +68,174 @@ fn print_measured(m: Measured) {
     lines::end_line();
 }
 
-fn measure(line: &[u8], pixels: &[u8], palette: &[u8], indices: &[u8]) -> Measured {
-    dbs::perceived_error(
-        pixels,
-        lines::number(line, WIDTH),
-        lines::number(line, HEIGHT),
-        palette,
-        indices,
-        lines::float(line, PPI),
-        lines::float(line, DISTANCE),
-    )
-}
-
-fn refine_and_print(
+// The indices are refined in a buffer of their own.
+fn refine(
     line: &[u8],
-    pixels: &[u8],
-    palette: &[u8],
-    pinned: &[u8],
+    g: Given,
+    given: &[u8],
     indices: &mut [u8],
     cpe: &mut [f64],
     cpp: &mut [f64],
     counts: &mut [u32],
     inks: &mut [f64],
 ) {
-    fill(cpe);
-    fill(cpp);
-    fill_counts(counts);
-    fill(inks);
+    let indices = lines::read_part(line, 9, indices);
+    let cpe = lines::floats(line, 10, cpe, 0);
+    let cpp = lines::floats(line, 11, cpp, 0);
+    let counts = lines::counts(line, 12, counts);
+    let inks = lines::floats(line, 13, inks, 0);
     let stats = dbs::dbs_refine(
-        pixels,
-        lines::number(line, WIDTH),
-        lines::number(line, HEIGHT),
-        palette,
+        lists::pixels(given, g),
+        lines::number(line, 1),
+        lines::number(line, 2),
+        lists::palette(given, g),
         indices,
-        pinned,
-        lines::float(line, PPI),
-        lines::float(line, DISTANCE),
-        lines::number(line, MAX_PASSES),
+        lists::pinned(given, g),
+        lines::float(line, 4),
+        lines::float(line, 5),
+        lines::number(line, 3),
         cpe,
         cpp,
         counts,
         inks,
     );
     print_stats(stats);
-    let passes = stats.passes;
-    print_buffers(passes, indices, cpe, cpp, counts, inks);
+    print_buffers(stats.passes, indices, cpe, cpp, counts, inks);
 }
 
-// A call on just what it is given; measure sees the indices before refine moves them.
-fn both(
-    line: &[u8],
-    pixels: &[u8],
-    palette: &[u8],
-    pinned: &[u8],
-    indices: &mut [u8],
-    cpe: &mut [f64],
-    cpp: &mut [f64],
-    counts: &mut [u32],
-    inks: &mut [f64],
-) {
-    let measured = measure(line, pixels, palette, indices);
-    refine_and_print(
-        line,
-        pixels,
-        palette,
-        pinned,
-        indices,
-        cpe,
-        cpp,
-        counts,
-        inks,
+fn measure(line: &[u8], g: Given, given: &[u8]) {
+    let m = dbs::perceived_error(
+        lists::pixels(given, g),
+        lines::number(line, 1),
+        lines::number(line, 2),
+        lists::palette(given, g),
+        lists::indices(given, g),
+        lines::float(line, 4),
+        lines::float(line, 5),
     );
-    print_measured(measured);
+    print_measured(m);
 }
 
-// A call, in room for the largest.
-fn call(
-    line: &[u8],
-    pixels: &mut [u8],
-    palette: &mut [u8],
-    pinned: &mut [u8],
-    indices: &mut [u8],
-    cpe: &mut [f64],
-    cpp: &mut [f64],
-    counts: &mut [u32],
-    inks: &mut [f64],
-) {
-    let pixels_len = lines::bytes(line, PIXELS, pixels);
-    let palette_len = lines::bytes(line, PALETTE, palette);
-    let pinned_len = lines::bytes(line, PINNED, pinned);
-    let indices_len = lines::bytes(line, INDICES, indices);
-    let cpe_len = lines::clamp(lines::number(line, CPE), cpe.len());
-    let cpp_len = lines::clamp(lines::number(line, CPP), cpp.len());
-    let counts_len = lines::clamp(lines::number(line, COUNTS), counts.len());
-    let inks_len = lines::clamp(lines::number(line, INKS), inks.len());
-    both(
-        line,
-        &pixels[..pixels_len],
-        &palette[..palette_len],
-        &pinned[..pinned_len],
-        &mut indices[..indices_len],
-        &mut cpe[..cpe_len],
-        &mut cpp[..cpp_len],
-        &mut counts[..counts_len],
-        &mut inks[..inks_len],
-    );
-}
-
-fn fill_bytes(bytes: &mut [u8]) {
-    for i in 0..bytes.len() {
-        bytes[i] = 255;
-    }
-}
-
-fn fill_words(words: &mut [u64]) {
-    for i in 0..words.len() {
-        words[i] = 0xffff_ffff_ffff_ffff;
-    }
-}
-
-// A line of a list of job calls. Its first bytes name the call; an open finds each cell of every buffer set.
-fn job_line(
-    line: &[u8],
-    pixels: &mut [u8],
-    palette: &mut [u8],
-    pinned: &mut [u8],
-    indices: &mut [u8],
-    cpe: &mut [f64],
-    cpp: &mut [f64],
-    counts: &mut [u32],
-    inks: &mut [f64],
-    states: &mut [u8],
-    deltas: &mut [f64],
-    record: &mut [u64],
-    copy_cpe: &mut [f64],
-    copy_indices: &mut [u8],
-) {
-    let first = lines::byte_at(line, 0);
-    if first == b'o' {
-        fill_bytes(pinned);
-        fill_bytes(indices);
-        fill(cpe);
-        fill(cpp);
-        fill_counts(counts);
-        fill(inks);
-        fill_bytes(states);
-        fill(deltas);
-        fill_words(record);
-        fill(copy_cpe);
-        fill_bytes(copy_indices);
-        lists::open(
-            line,
-            pixels,
-            palette,
-            pinned,
-            indices,
-            cpe,
-            cpp,
-            counts,
-            inks,
-            states,
-            deltas,
-            record,
-        );
-    } else if first == b't' {
-        lists::take(line, indices, cpe, states, record, copy_cpe, copy_indices);
-    } else if first == b'p' {
-        lists::put_back(
-            line,
-            indices,
-            cpe,
-            states,
-            deltas,
-            record,
-            copy_cpe,
-            copy_indices,
-        );
-    } else if first == b'c' {
-        lists::close(line, counts, states, deltas, record);
-    } else if first == b'i' {
-        lists::set_index(line, copy_indices);
-    } else if lines::byte_at(line, 3) == b'k' {
-        lists::work(line, pinned, cpp, inks, record, copy_cpe, copy_indices);
-    } else {
-        lists::set_word(line, record);
-    }
-}
-
-fn is_call(line: &[u8]) -> bool {
-    lines::byte_at(line, 0) == b'c' && lines::byte_at(line, 1) == b'a'
-}
-
-fn run(
-    line: &[u8],
-    pixels: &mut [u8],
-    palette: &mut [u8],
-    pinned: &mut [u8],
-    indices: &mut [u8],
-    cpe: &mut [f64],
-    cpp: &mut [f64],
-    counts: &mut [u32],
-    inks: &mut [f64],
-    states: &mut [u8],
-    deltas: &mut [f64],
-    record: &mut [u64],
-    copy_cpe: &mut [f64],
-    copy_indices: &mut [u8],
-) {
-    if is_call(line) {
-        call(
-            line,
-            pixels,
-            palette,
-            pinned,
-            indices,
-            cpe,
-            cpp,
-            counts,
-            inks,
-        );
-    } else {
-        job_line(
-            line,
-            pixels,
-            palette,
-            pinned,
-            indices,
-            cpe,
-            cpp,
-            counts,
-            inks,
-            states,
-            deltas,
-            record,
-            copy_cpe,
-            copy_indices,
-        );
-    }
-}
-
-fn calls(
+fn call_in(
     text: &[u8],
-    pixels: &mut [u8],
-    palette: &mut [u8],
-    pinned: &mut [u8],
+    given: &mut [u8],
     indices: &mut [u8],
     cpe: &mut [f64],
     cpp: &mut [f64],
     counts: &mut [u32],
     inks: &mut [f64],
-    states: &mut [u8],
-    deltas: &mut [f64],
-    record: &mut [u64],
-    copy_cpe: &mut [f64],
-    copy_indices: &mut [u8],
 ) {
+    let from = 0;
+    let end = lines::line_end(text, from);
+    let line = &text[from..end];
+    let g = lists::read_given(line, given);
+    refine(line, g, given, indices, cpe, cpp, counts, inks);
+    measure(line, g, given);
+}
+
+// A call finds each cell of every buffer set.
+fn call(text: &[u8]) {
+    let mut given = [255u8; 4096];
+    let mut indices = [255u8; 1024];
+    let mut cpe = [-1.0f64; 1024];
+    let mut cpp = [-1.0f64; 8500];
+    let mut counts = [4294967295u32; 1024];
+    let mut inks = [-1.0f64; 1024];
+    call_in(
+        text,
+        &mut given,
+        &mut indices,
+        &mut cpe,
+        &mut cpp,
+        &mut counts,
+        &mut inks,
+    );
+}
+
+// A letter that tells the lines of a list apart: the first, or of word and work the last.
+fn kind(line: &[u8]) -> u8 {
+    let first = lines::byte_at(line, 0);
+    if first == b'w' {
+        return lines::byte_at(line, 3);
+    }
+    first
+}
+
+// The answer is at the buffers' lifetime: they are lent for good, and nothing is owed of their lengths.
+fn calls<'a>(
+    text: &[u8],
+    given: &'a mut [u8],
+    cpe: &'a mut [f64],
+    cpp: &'a mut [f64],
+    counts: &'a mut [u32],
+    inks: &'a mut [f64],
+    states: &'a mut [u8],
+    deltas: &'a mut [f64],
+    record: &'a mut [u64],
+    copy_cpe: &'a mut [f64],
+    copy_indices: &'a mut [u8],
+) -> &'a [u64] {
     let mut at = 0;
     while at < text.len() {
         let end = lines::line_end(text, at);
-        run(
-            &text[at..end],
-            pixels,
-            palette,
-            pinned,
-            indices,
-            cpe,
-            cpp,
-            counts,
-            inks,
-            states,
-            deltas,
-            record,
-            copy_cpe,
-            copy_indices,
-        );
+        let line = &text[at..end];
         at = end + 1;
+        let kind = kind(line);
+        if kind == b'o' {
+            let g = lists::read_given(line, given);
+            lists::open(
+                line,
+                g,
+                given,
+                cpe,
+                cpp,
+                counts,
+                inks,
+                states,
+                deltas,
+                record,
+            );
+        } else if kind == b't' {
+            lists::take(line, given, cpe, states, record, copy_cpe, copy_indices);
+        } else if kind == b'k' {
+            lists::work(line, given, cpp, inks, record, copy_cpe, copy_indices);
+        } else if kind == b'p' {
+            lists::put_back(
+                line,
+                given,
+                cpe,
+                states,
+                deltas,
+                record,
+                copy_cpe,
+                copy_indices,
+            );
+        } else if kind == b'c' {
+            lists::close(line, counts, states, deltas, record);
+        } else if kind == b'd' {
+            lists::set_word(line, record);
+        } else {
+            lists::set_index(line, copy_indices);
+        }
     }
+    record
 }
 
-fn main() {
-    let mut text = io::large_buffer();
-    let n = io::read_full(STDIN, &mut text);
-    let mut pixels = [0u8; 1024];
-    let mut palette = [0u8; 1024];
-    let mut pinned = [0u8; 1024];
-    let mut indices = [0u8; 1024];
-    let mut cpe = [0.0f64; 1024];
-    let mut cpp = [0.0f64; 8500];
-    let mut counts = [0u32; 1024];
-    let mut inks = [0.0f64; 1024];
-    let mut states = [0u8; 64];
-    let mut deltas = [0.0f64; 64];
-    let mut record = [0u64; 16];
-    let mut copy_cpe = [0.0f64; 3072];
-    let mut copy_indices = [0u8; 1024];
+// A list, which begins with an open, finds each cell of every buffer set.
+fn list(text: &[u8]) {
+    let mut given = [255u8; 4096];
+    let mut cpe = [-1.0f64; 1024];
+    let mut cpp = [-1.0f64; 8500];
+    let mut counts = [4294967295u32; 1024];
+    let mut inks = [-1.0f64; 1024];
+    let mut states = [255u8; 64];
+    let mut deltas = [-1.0f64; 64];
+    let mut record = [0xffff_ffff_ffff_ffffu64; 16];
+    let mut copy_cpe = [-1.0f64; 3072];
+    let mut copy_indices = [255u8; 1024];
     calls(
-        &text[..n],
-        &mut pixels,
-        &mut palette,
-        &mut pinned,
-        &mut indices,
+        text,
+        &mut given,
         &mut cpe,
         &mut cpp,
         &mut counts,
@@ -416,4 +246,46 @@ fn main() {
         &mut copy_cpe,
         &mut copy_indices,
     );
+}
+
+// Whether a list or a call begins here: no word but the first of a line has these letters.
+fn begins_list(text: &[u8], at: usize) -> bool {
+    if at >= text.len() {
+        return false;
+    }
+    let line = &text[at..];
+    lines::begins(line, b"open") || lines::begins(line, b"call")
+}
+
+// Where the list or the call ends that begins here.
+fn list_end(text: &[u8], from: usize) -> usize
+    requires { ⌜ from < length (now text) ⌝ }
+    ensures { λ r. ⌜ (from < r) × (r ≤ length (now (text .entry))) ⌝ }
+{
+    for i in from + 1..text.len() {
+        if begins_list(text, i) {
+            return i;
+        }
+    }
+    text.len()
+}
+
+fn all_lists(text: &[u8]) {
+    let mut at = 0;
+    while at < text.len() {
+        let end = list_end(text, at);
+        let part = &text[at..end];
+        at = end;
+        if lines::byte_at(part, 0) == b'c' {
+            call(part);
+        } else {
+            list(part);
+        }
+    }
+}
+
+fn main() {
+    let mut text = io::large_buffer();
+    let n = io::read_full(STDIN, &mut text);
+    all_lists(&text[..n]);
 }
