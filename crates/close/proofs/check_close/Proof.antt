@@ -25,7 +25,7 @@ check-missing-requires c κs =
 
 returns : tie.Need-returns
 unfolding closeTests Numbered
-returns c = after-record _ (_ ∷ _ ∷ _ ∷ _ ∷ _ ∷ []) (omega arith) (cc)
+returns c = after-record _ _ (omega arith) (cc)
 
 pub check-close-spec : {M : Type 1} → statement M
 check-close-spec =

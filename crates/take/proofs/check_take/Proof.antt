@@ -44,7 +44,7 @@ check-state-requires c κs = λ z. let q = image (c .before) (passed _ (_ ∷ _ 
 
 returns : tie.Need-returns
 unfolding takeTests pixelsOf isWaiting Numbered
-returns c = after-record _ (_ ∷ _ ∷ _ ∷ _ ∷ _ ∷ _ ∷ _ ∷ _ ∷ []) (omega arith) (rw (c .check-state .ensures, c .before .check-copy .ensures, c .before .before .check-image .ensures, c .before .before .before .check-turn .ensures, c .before .before .before .before .check-record .ensures))
+returns c = after-record _ _ (omega arith) (rw (c .check-state .ensures, c .before .check-copy .ensures, c .before .before .check-image .ensures, c .before .before .before .check-turn .ensures, c .before .before .before .before .check-record .ensures))
 
 pub check-take-spec : {M : Type 1} → statement M
 check-take-spec =

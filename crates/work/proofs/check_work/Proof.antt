@@ -35,7 +35,7 @@ check-inks-requires c κs = λ z. lent (c .before) (passed _ (_ ∷ _ ∷ []) (o
 
 returns : tie.Need-returns
 unfolding workTests copyTest Numbered
-returns c = after-record _ (_ ∷ _ ∷ _ ∷ _ ∷ _ ∷ _ ∷ _ ∷ []) (omega arith) (cc)
+returns c = after-record _ _ (omega arith) (cc)
 
 pub check-work-spec : {M : Type 1} → statement M
 check-work-spec =
