@@ -1,3 +1,4 @@
+pub mod Limits
 pub mod Loop
 pub mod Grid
 pub mod Refusal

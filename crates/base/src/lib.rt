@@ -1,7 +1,11 @@
 // What the other crates stand on. The definitions are in specs/, their laws in proofs/: loops as
 // folds over a counter, windows of an image as flat lists, refusals as an ordered list of tests,
-// and f64 arithmetic under short names.
+// and f64 arithmetic under short names. Limits stand here once, in code and in specs/Limits.antt.
 ghost use mathlib.Core.Path.{_≡_};
+ghost use Prim.Native.Nat as nat;
+ghost use Prim.Native.Nat.{_-_, _<_, _≤_};
+ghost use Rattle.base.specs.Grid as grid;
+ghost use Rattle.base.specs.Limits.{maxSide};
 ghost use Rattle.base.specs.Refusal.{test, accepted, isAccepted};
 ghost use Rattle.base.specs.Refusal as spec;
 
@@ -12,6 +16,22 @@ pub struct Rect {
     pub x1: usize,
     pub y1: usize,
 }
+
+// The number of an ink, as a halftone holds it: document 01's 'Plane: one u8 index per dot'.
+pub type Index = u8;
+
+// The sides of an image, the inks of a palette, the passes of a run: document 01's limits.
+pub const MAX_SIDE: usize = 4096;
+
+pub const MAX_INKS: usize = 256;
+
+pub const MAX_PASSES: usize = 1000;
+
+// The kernel store `cpp`: the luminance kernel stands from 0, the chrominance kernel from here, each
+// with room for 65 x 65 values.
+pub const CPP_CHROMA: usize = 4225;
+
+pub const CPP_LEN: usize = 8450;
 
 // A call's answer: 0, 0 means accepted, any other number is a refusal with its place.
 #[repr(C)]
@@ -46,4 +66,33 @@ pub fn next(s: Status, fails: bool, number: u64, place: u64) -> Status
         }
     }
     s
+}
+
+// Rust's `max`, `min` and `saturating_sub`.
+pub fn larger(a: usize, b: usize) -> usize
+    ensures { λ r. ⌜ r ≡ nat.max a b ⌝ }
+{
+    if a < b { b } else { a }
+}
+
+pub fn smaller(a: usize, b: usize) -> usize
+    ensures { λ r. ⌜ r ≡ nat.min a b ⌝ }
+{
+    if a < b { a } else { b }
+}
+
+pub fn saturating_sub(a: usize, b: usize) -> usize
+    ensures { λ r. ⌜ r ≡ a - b ⌝ }
+{
+    if a < b { 0 } else { a - b }
+}
+
+// Where the values of pixel (x, y) begin in the list of w, k values a pixel; x may be one past a row's end.
+pub fn place(k: usize, w: Rect, x: usize, y: usize) -> usize
+    requires { ⌜ k ≤ 3 ⌝ }
+    requires { ⌜ (w .x0 ≤ x) × (x ≤ w .x1) × (w .y0 ≤ y) × (y < w .y1) ⌝ }
+    requires { ⌜ (w .x1 ≤ maxSide) × (w .y1 ≤ maxSide) ⌝ }
+    ensures { λ i. ⌜ i ≡ grid.place k w x y 0 ⌝ }
+{
+    k * ((y - w.y0) * (w.x1 - w.x0) + (x - w.x0))
 }
