@@ -1,4 +1,6 @@
-//! The image that is refined: a picture, its inks and the halftone that is started from.
+//! The images that are refined: a picture, its inks, the halftone that is started from, and pins.
+
+use crate::light_table::SRGB_TO_LINEAR_LUT;
 
 pub struct Image {
     pub width: usize,
@@ -6,45 +8,148 @@ pub struct Image {
     pub pixels: Vec<u8>,
     pub palette: Vec<u8>,
     pub indices: Vec<u8>,
+    /// Empty, or a byte for each pixel.
+    pub pinned: Vec<u8>,
     pub ppi: f64,
     pub viewing_distance_cm: f64,
+}
+
+/// The halftone that a refinement starts from.
+#[derive(Clone, Copy, PartialEq)]
+pub enum Start {
+    /// The picture by Floyd and Steinberg's error diffusion, in linear light, with the same inks.
+    Diffused,
+    /// Any ink at each pixel.
+    Random,
+}
+
+/// What an image is made of.
+#[derive(Clone, Copy)]
+pub struct Input {
+    pub start: Start,
+    pub width: usize,
+    pub height: usize,
+    pub inks: usize,
+    pub ppi: f64,
+    /// Whether a caption is pinned in a corner.
+    pub caption: bool,
 }
 
 /// Black, white, green, blue, red, yellow and orange of a panel.
 const PANEL: [[u8; 3]; 7] =
     [[30, 28, 34], [235, 235, 228], [45, 105, 70], [55, 65, 140], [165, 45, 45], [225, 200, 50], [200, 105, 50]];
 
-/// Soft waves of each channel. The start is dithered: each pixel, with noise added, has the nearest ink.
-pub fn image(width: usize, height: usize, ppi: f64) -> Image {
-    let mut pixels = Vec::with_capacity(3 * width * height);
-    let mut indices = Vec::with_capacity(width * height);
-    let mut state = 1_u64;
-    for y in 0..height {
-        for x in 0..width {
-            let pixel = [wave(2 * x + y, 501), wave(x + 3 * y, 377), wave(3 * x + 640 - y % 640, 911)];
-            let noisy = pixel.map(|channel| i32::from(channel) + noise(&mut state));
-            pixels.extend(pixel);
-            indices.push(nearest(noisy));
+pub fn image(input: Input) -> Image {
+    let Input { width, height, .. } = input;
+    let palette = palette(input.inks);
+    let at = |i: usize| (i % width, i / width);
+    let pixels: Vec<[u8; 3]> = (0..width * height).map(at).map(|(x, y)| picture(x, y, width, height)).collect();
+    let mut indices = match input.start {
+        Start::Diffused => diffused(&pixels, width, &palette),
+        Start::Random => random(pixels.len(), input.inks),
+    };
+    let mut pinned = vec![];
+    if input.caption {
+        for i in 0..width * height {
+            let (x, y) = at(i);
+            let letter = caption(x, y, width, height);
+            pinned.push(u8::from(letter.is_some()));
+            indices[i] = letter.unwrap_or(indices[i]);
         }
     }
-    Image { width, height, pixels, palette: PANEL.concat(), indices, ppi, viewing_distance_cm: 40.0 }
+    Image {
+        width,
+        height,
+        pixels: pixels.concat(),
+        palette: palette.concat(),
+        indices,
+        pinned,
+        ppi: input.ppi,
+        viewing_distance_cm: 40.0,
+    }
 }
 
-/// Up and down between 0 and 255 with this period.
-fn wave(at: usize, period: usize) -> u8 {
-    let t = at % period * 510 / period;
-    t.min(510 - t) as u8
+/// Up to 7 inks those of the panel, else a cube of colours: levels of red, green and blue.
+fn palette(inks: usize) -> Vec<[u8; 3]> {
+    let levels = match inks {
+        64 => [4, 4, 4],
+        256 => [8, 8, 4],
+        _ => return PANEL[..inks].to_vec(),
+    };
+    let level = |i: usize, of: usize| (20 + i * 215 / (of - 1)) as u8;
+    let ink = |i: usize| {
+        [
+            level(i % levels[0], levels[0]),
+            level(i / levels[0] % levels[1], levels[1]),
+            level(i / levels[0] / levels[1], levels[2]),
+        ]
+    };
+    (0..inks).map(ink).collect()
 }
 
-/// From -64 to 63, by an xorshift.
-fn noise(state: &mut u64) -> i32 {
-    *state ^= *state << 13;
-    *state ^= *state >> 7;
-    *state ^= *state << 17;
-    (*state >> 57) as i32 - 64
+/// A picture-like image: a sky that darkens upwards, three shaded balls with edges, ground with a fine texture.
+fn picture(x: usize, y: usize, width: usize, height: usize) -> [u8; 3] {
+    let (x, y, width, height) = (x as i64, y as i64, width as i64, height as i64);
+    for (centre_x, centre_y, radius, colour) in
+        [(2, 5, 3, [200, 60, 50]), (5, 6, 2, [60, 110, 70]), (8, 4, 2, [220, 190, 60])]
+    {
+        let (dx, dy) = (x - width * centre_x / 10, y - height * centre_y / 10);
+        let radius = radius * height / 10;
+        if dx * dx + dy * dy < radius * radius {
+            // Lit from above and left.
+            let light = 255 - (dx + dy + 2 * radius) * 160 / (4 * radius).max(1);
+            return colour.map(|channel: i64| (channel * light / 255) as u8);
+        }
+    }
+    if y < height * 7 / 10 {
+        let t = y * 255 / (height * 7 / 10).max(1);
+        return [60 + t / 2, 110 + t / 3, 235 - t / 5].map(|v: i64| v as u8);
+    }
+    let grain = (x * 37 + y * 101 + x * y % 53) % 48;
+    [120 + grain + x * 60 / width, 95 + grain, 60 + grain / 2].map(|v| v as u8)
 }
 
-fn nearest(pixel: [i32; 3]) -> u8 {
-    let distance = |ink: &[u8; 3]| -> i32 { (0..3).map(|c| (pixel[c] - i32::from(ink[c])).pow(2)).sum() };
-    (0..PANEL.len()).min_by_key(|&k| distance(&PANEL[k])).unwrap_or(0) as u8
+/// Black or white of the panel where the caption lies, in the lower right corner: rows of letters on white.
+fn caption(x: usize, y: usize, width: usize, height: usize) -> Option<u8> {
+    let (right, below) = (width - x, height - y);
+    let within = (8..248).contains(&right) && (8..64).contains(&below);
+    let letter = right % 12 < 8 && below % 14 < 10 && (right % 4 < 2 || below % 7 < 2);
+    within.then_some(if letter { 0 } else { 1 })
+}
+
+/// The nearest ink in linear light, its error handed on: 7/16 to the right, 3, 5 and 1 to the row below.
+fn diffused(pixels: &[[u8; 3]], width: usize, palette: &[[u8; 3]]) -> Vec<u8> {
+    let light = |colour: [u8; 3]| colour.map(|byte| f64::from_bits(SRGB_TO_LINEAR_LUT[usize::from(byte)]));
+    let inks: Vec<[f64; 3]> = palette.iter().map(|&ink| light(ink)).collect();
+    let mut indices = Vec::with_capacity(pixels.len());
+    let mut errors = vec![[0.0; 3]; pixels.len() + width + 1];
+    for (i, &pixel) in pixels.iter().enumerate() {
+        let wanted: [f64; 3] = std::array::from_fn(|c| light(pixel)[c] + errors[i][c]);
+        let distance = |ink: &[f64; 3]| (0..3).map(|c| (wanted[c] - ink[c]) * (wanted[c] - ink[c])).sum::<f64>();
+        let k = (0..inks.len()).min_by(|&a, &b| distance(&inks[a]).total_cmp(&distance(&inks[b]))).unwrap_or(0);
+        indices.push(k as u8);
+        let (first, last) = (i % width == 0, (i + 1) % width == 0);
+        for (to, share, there) in
+            [(i + 1, 7.0, !last), (i + width - 1, 3.0, !first), (i + width, 5.0, true), (i + width + 1, 1.0, !last)]
+        {
+            if there {
+                for c in 0..3 {
+                    errors[to][c] += (wanted[c] - inks[k][c]) * share / 16.0;
+                }
+            }
+        }
+    }
+    indices
+}
+
+/// By an xorshift.
+fn random(pixels: usize, inks: usize) -> Vec<u8> {
+    let mut state = 1_u64;
+    let mut next = || {
+        state ^= state << 13;
+        state ^= state >> 7;
+        state ^= state << 17;
+        (state >> 33) as usize
+    };
+    (0..pixels).map(|_| (next() % inks) as u8).collect()
 }

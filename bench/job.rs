@@ -68,8 +68,8 @@ fn open(image: &Image, max_passes: usize, result: &mut Outcome) -> ([u64; RECORD
                 image.palette.len(),
                 result.indices.as_ptr(),
                 result.indices.len(),
-                [].as_ptr(),
-                0,
+                image.pinned.as_ptr(),
+                image.pinned.len(),
                 image.ppi,
                 image.viewing_distance_cm,
                 max_passes as u64,
@@ -114,6 +114,7 @@ struct Job<'a> {
 /// What no call changes while workers run.
 struct Fixed<'a> {
     tiling: Tiling,
+    pinned: &'a [u8],
     cpp: &'a [f64],
     inks: &'a [f64],
 }
@@ -217,8 +218,8 @@ fn work(job: &Mutex<Job>, closed: &Condvar, fixed: &Fixed, copy: &mut Copy) {
                     record.as_ptr(),
                     RECORD_LEN,
                     tile as u64,
-                    [].as_ptr(),
-                    0,
+                    fixed.pinned.as_ptr(),
+                    fixed.pinned.len(),
                     fixed.cpp.as_ptr(),
                     fixed.cpp.len(),
                     copy.cpe.as_mut_ptr(),
@@ -256,7 +257,7 @@ pub fn refine(
     let most = (tiling.side + 2 * tiling.margin).pow(2).min(image.indices.len());
     let mut copies: Vec<Copy> =
         (0..threads).map(|_| Copy { cpe: vec![1.0; 3 * most], indices: vec![1; most] }).collect();
-    let fixed = Fixed { tiling, cpp: &result.cpp, inks: &result.inks };
+    let fixed = Fixed { tiling, pinned: &image.pinned, cpp: &result.cpp, inks: &result.inks };
     let job = Mutex::new(Job {
         record,
         indices: &mut result.indices,

@@ -16,18 +16,21 @@ mod times;
 use std::fs::read_to_string;
 use std::process::ExitCode;
 
-use image::{image, Image};
+use image::{image, Image, Input, Start};
 use outcome::Outcome;
 use times::Times;
 
 const MAX_PASSES: usize = 10;
 
+/// The input of the tables of parts, sizes and passes.
+const PICTURE: Input = Input { start: Start::Diffused, width: 800, height: 480, inks: 7, ppi: 127.0, caption: false };
+
 fn main() -> ExitCode {
     let words: Vec<String> = std::env::args().skip(1).collect();
     let words: Vec<&str> = words.iter().map(String::as_str).collect();
-    let (sizes, rest) = match words.as_slice() {
-        ["--sizes", rest @ ..] => (true, rest),
-        rest => (false, rest),
+    let (table, rest) = match words.as_slice() {
+        [table @ ("--inputs" | "--sizes" | "--passes"), rest @ ..] => (*table, rest),
+        rest => ("--parts", rest),
     };
     let runs = match rest {
         [] => Some(5),
@@ -35,19 +38,20 @@ fn main() -> ExitCode {
         _ => None,
     };
     let Some(runs) = runs else {
-        eprintln!("usage: bench/run [--sizes] [--runs N]");
+        eprintln!("usage: bench/run [--inputs | --sizes | --passes] [--runs N]");
         return ExitCode::from(2);
     };
     println!("{}", machine());
-    println!("7 inks, 40 cm, {MAX_PASSES} passes, no pins; medians of {runs} runs, library and copy in turn.");
+    println!(
+        "40 cm, at most {MAX_PASSES} passes, 7 inks where no number is given; {runs} runs, library and copy in turn."
+    );
     println!("Library: buffers allocated and cleared once before, lent to every run and not cleared in between.");
     println!("Copy of the Rust: allocates its own in each run, within its time.\n");
-    if sizes {
-        print_sizes(runs);
-    } else {
-        for ppi in [127.0, 40.0, 340.0] {
-            print_parts(ppi, runs);
-        }
+    match table {
+        "--inputs" => print_inputs(runs),
+        "--sizes" => print_sizes(runs),
+        "--passes" => print_passes(runs),
+        _ => [127.0, 40.0, 340.0].into_iter().for_each(|ppi| print_parts(ppi, runs)),
     }
     println!("{}", machine());
     ExitCode::SUCCESS
@@ -93,7 +97,7 @@ fn report(difference: Option<&str>) {
 }
 
 fn print_parts(ppi: f64, runs: usize) {
-    let image = image(800, 480, ppi);
+    let image = image(Input { ppi, ..PICTURE });
     let mut lent = Outcome::new(&image, MAX_PASSES);
     let (mut ours, mut rusts, mut fresh) = (Parts::default(), Parts::default(), Times::default());
     let mut jobs = [1, 2].map(|threads| (threads, Times::default(), Times::default()));
@@ -113,7 +117,10 @@ fn print_parts(ppi: f64, runs: usize) {
             report(lent.difference(&expected));
         }
     }
-    println!("{}x{} pixels, {ppi} per inch, {passes} passes run; all bit-equal:\n", image.width, image.height);
+    println!(
+        "Error-diffused picture, {}x{} pixels, {ppi} per inch, {passes} passes run; medians; all bit-equal:\n",
+        image.width, image.height
+    );
     println!("| part | library, ms | Rust, ms | ratio | processor time: library, ms | Rust, ms | ratio |");
     println!("|---|---|---|---|---|---|---|");
     let row = |name: &str, ours: &Times, rusts: &Times| {
@@ -136,11 +143,11 @@ fn print_parts(ppi: f64, runs: usize) {
 }
 
 fn print_sizes(runs: usize) {
-    println!("Processor time. Each cell: library / Rust.\n");
+    println!("Error-diffused picture, 127 per inch. Processor time, medians. Each cell: library / Rust.\n");
     println!("| pixels | build-up, ms | passes, ms | whole refine, ms | whole, ns a pixel | perceived_error, ms |");
     println!("|---|---|---|---|---|---|");
     for (width, height) in [(200, 120), (400, 240), (800, 480), (1600, 960)] {
-        let image = image(width, height, 127.0);
+        let image = image(Input { width, height, ..PICTURE });
         let mut lent = Outcome::new(&image, MAX_PASSES);
         let (mut ours, mut rusts) = (Parts::default(), Parts::default());
         for _ in 0..runs {
@@ -159,4 +166,99 @@ fn print_sizes(runs: usize) {
         );
     }
     println!("\nEvery run was bit-equal.");
+}
+
+/// Inputs of several kinds: the time of the passes. Those with a caption follow the same without.
+fn inputs() -> Vec<Input> {
+    let random = Input { start: Start::Random, ..PICTURE };
+    let mut inputs = vec![];
+    for input in [PICTURE, random] {
+        inputs.extend([40.0, 127.0, 340.0].map(|ppi| Input { ppi, ..input }));
+    }
+    inputs.extend([PICTURE, random].map(|input| Input { caption: true, ..input }));
+    inputs.extend([1000, 1024, 1100, 4096].map(|width| Input { width, height: 240, ..random }));
+    for input in [PICTURE, random] {
+        inputs.extend([2, 7, 64, 256].map(|inks| Input { width: 400, height: 240, inks, ..input }));
+    }
+    inputs
+}
+
+fn print_inputs(runs: usize) {
+    let mut rows: Vec<_> = inputs()
+        .into_iter()
+        .map(|input| {
+            let image = image(input);
+            let lent = Outcome::new(&image, MAX_PASSES);
+            (input, image, lent, Parts::default(), Parts::default(), 0)
+        })
+        .collect();
+    for _ in 0..runs {
+        for (_, image, lent, ours, rusts, passes) in &mut rows {
+            *passes = run(image, lent, ours, rusts).passes;
+        }
+    }
+    println!("Passes (whole less build-up), processor time; every run was bit-equal.\n");
+    println!("| start | pixels | inks | per inch | passes run | library, ms: median, least | Rust, ms: median, least | ratio: median, least | library, ns a pixel |");
+    println!("|---|---|---|---|---|---|---|---|---|");
+    let passes_of = |parts: &Parts| parts.whole.less(&parts.build_up);
+    for (input, image, _, ours, rusts, passes) in &rows {
+        let (ours, rusts) = (passes_of(ours), passes_of(rusts));
+        let [ours, rusts] = [ours, rusts].map(|times| [times.median().processor, times.least().processor]);
+        println!(
+            "| {}{} | {}x{} | {} | {} | {passes} | {:.0}, {:.0} | {:.0}, {:.0} | {:.2}, {:.2} | {:.0} |",
+            if input.start == Start::Diffused { "error-diffused" } else { "random" },
+            if input.caption { ", caption pinned" } else { "" },
+            image.width,
+            image.height,
+            input.inks,
+            input.ppi,
+            ours[0],
+            ours[1],
+            rusts[0],
+            rusts[1],
+            ours[0] / rusts[0],
+            ours[1] / rusts[1],
+            ours[0] * 1e6 / image.indices.len() as f64,
+        );
+    }
+    println!();
+    let of = |wanted: Input| {
+        let same = |input: &Input| {
+            (input.start, input.width, input.height, input.caption)
+                == (wanted.start, wanted.width, wanted.height, wanted.caption)
+                && (input.inks, input.ppi) == (wanted.inks, wanted.ppi)
+        };
+        rows.iter().find(|row| same(&row.0)).map(|row| passes_of(&row.3))
+    };
+    for (name, start) in [("error-diffused", Start::Diffused), ("random", Start::Random)] {
+        let plain = Input { start, ..PICTURE };
+        if let (Some(masked), Some(plain)) = (of(Input { caption: true, ..plain }), of(plain)) {
+            println!(
+                "Library, caption pinned / no pins, {name}: median {:.2}, least {:.2}.",
+                masked.median().processor / plain.median().processor,
+                masked.least().processor / plain.least().processor,
+            );
+        }
+    }
+    println!();
+}
+
+fn print_passes(runs: usize) {
+    println!(
+        "Error-diffused picture, {}x{} pixels, {} per inch, library; processor time, medians.\n",
+        PICTURE.width, PICTURE.height, PICTURE.ppi
+    );
+    println!("| passes | ms | moves of the last pass |");
+    println!("|---|---|---|");
+    let image = image(PICTURE);
+    for passes in 1..=MAX_PASSES {
+        let mut lent = Outcome::new(&image, passes);
+        let mut times = Times::default();
+        for _ in 0..runs {
+            lent.indices.copy_from_slice(&image.indices);
+            times.add(|| library::refine(&image, passes, &mut lent));
+        }
+        println!("| {passes} | {:.0} | {} |", times.median().processor, lent.accepted_per_pass[passes - 1]);
+    }
+    println!();
 }

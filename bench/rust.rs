@@ -14,8 +14,10 @@ pub struct Run {
 pub fn refine(image: &Image, max_passes: usize) -> Run {
     let mut indices = image.indices.clone();
     let params = params(image, max_passes);
+    let pinned: Vec<bool> = image.pinned.iter().map(|&byte| byte != 0).collect();
+    let pinned = (!pinned.is_empty()).then_some(pinned.as_slice());
     let (stats, kept) =
-        dbs_refine(&image.pixels, image.width, image.height, &palette(image), &mut indices, None, &params);
+        dbs_refine(&image.pixels, image.width, image.height, &palette(image), &mut indices, pinned, &params);
     Run { stats, kept, indices }
 }
 

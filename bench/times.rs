@@ -39,6 +39,11 @@ impl Times {
         Time { clock: self.median_of(|time| time.clock), processor: self.median_of(|time| time.processor) }
     }
 
+    pub fn least(&self) -> Time {
+        let least = |part: fn(&Time) -> f64| self.0.iter().map(part).fold(f64::INFINITY, f64::min);
+        Time { clock: least(|time| time.clock), processor: least(|time| time.processor) }
+    }
+
     fn median_of(&self, part: impl Fn(&Time) -> f64) -> f64 {
         let mut times: Vec<f64> = self.0.iter().map(part).collect();
         times.sort_by(f64::total_cmp);

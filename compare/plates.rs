@@ -19,6 +19,7 @@ pub fn groups(seed: u64, scale: f64) -> Vec<Group> {
     group("the input of program plate", vec![program_plate()]);
     group("up to 2x2, every mask and start", up_to_2x2());
     group("around tile boundaries", boundaries(&mut r));
+    group("widths of 512 and 1,024, pins in a corner, beside edges and anywhere", wide(&mut r));
     group("1 to 256 inks", (1..=256).map(|inks| small(&mut r, inks, 10)).collect());
     group("every blur radius", radii(&mut r));
     group("passes 0, 1, 2, 10, 1000", passes(&mut r, many(100)));
@@ -111,6 +112,28 @@ fn boundaries(r: &mut Random) -> Vec<Call> {
     plates.push(plate(r, 300, 200, 6, DbsParams { max_passes: 2, ..DbsParams::default() }));
     // Where nearly all is pinned, tiles hardly matter.
     plates.iter_mut().filter(|p| p.pinned.iter().all(|&byte| byte > 0)).for_each(|p| p.pinned.clear());
+    plates
+}
+
+/// Widths at which the rows of an image share the sets of a cache, and one beside them; with no mask, with a corner
+/// pinned, with the pixels beside each edge pinned, with any pixels pinned.
+fn wide(r: &mut Random) -> Vec<Call> {
+    let mut plates = vec![];
+    for (width, height) in [(512, 40), (513, 40), (1024, 20), (1024, 70)] {
+        for (whole, passes) in [(2, 3), (6, 2)] {
+            let params = DbsParams { max_passes: passes, ..reach(whole, 0.9) };
+            let mut open = plate(r, width, height, 7, params);
+            open.pinned.clear();
+            let pinned = |at: &mut dyn FnMut(u64, u64) -> bool| Call {
+                pinned: (0..width * height).map(|i| u8::from(at(i % width, i / width))).collect(),
+                ..open.clone()
+            };
+            plates.push(pinned(&mut |x, y| x + 90 > width && y + 12 > height && (x + y) % 3 > 0));
+            plates.push(pinned(&mut |x, y| x == 1 || y == 1 || x + 2 == width || y + 2 == height));
+            plates.push(pinned(&mut |_, _| r.below(4) == 0));
+            plates.push(open);
+        }
+    }
     plates
 }
 
