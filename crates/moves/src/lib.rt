@@ -117,7 +117,7 @@ fn swap_with(
         y: ny,
         a: negated(a),
     };
-    sweep::add_both(cpe, cpp, t, w, m, n);
+    both::add_both(cpe, cpp, t, w, m, n);
     put_index(indices, w, x, y, kn);
     put_index(indices, w, nx, ny, k);
 }

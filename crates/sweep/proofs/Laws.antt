@@ -1,4 +1,4 @@
--- A row of a kernel's footprint lies in the window and in the kernel, and what is done to its part of `cpe` is done to `cpe`. Assumes nothing.
+-- The footprint is a part; no value of `cpe` is added or lost; and what is done to the lent part of a row, pixel by pixel, is done to `cpe`. Assumes nothing.
 use Prim.Native.Nat.{ℕ, _+_, _-_, _*_, _<_, _≤_}
 use native.Mathlib.Omega.{arith}
 use mathlib.Core.Path.{_≡_, refl, sym, ap, _∙_}
@@ -7,21 +7,24 @@ use lib.ListN.{length, getD, drop, set, length-set, length-drop}
 use lib.Seq.{getD-take, getD-drop, length-take-le}
 use lib.Ieee.{Float, nan}
 use borrow.Rule.Slice.PartMut.{midOf, putMid, put-same}
+use Rattle.base.specs.declared.Rect.{Rect}
 use Rattle.base.specs.Loop.{upTo, fromTo}
+use Rattle.base.specs.Grid.{area, width, height, place}
+use Rattle.base.specs.Limits.{maxPixels, maxRadius, cppChroma}
+use Rattle.base.proofs.Bounds.{index-le, product-le}
 use Rattle.base.specs.F64.{_+f_, _*f_}
-use Rattle.base.proofs.LoopLaws.{fromTo-keeps}
+use Rattle.base.proofs.LoopLaws.{fromTo-none, fromTo-more, fromTo-keeps}
 use Rattle.base.proofs.PartLaws.{get-part, set-part, fold-part}
 use Rattle.color.specs.declared.YyCxCz.{YyCxCz}
 use Rattle.tiling.specs.declared.Tiling.{Tiling}
-use Rattle.cpp.specs.Kernel.{kernelAt, lumKernel, chromaKernel}
-use Rattle.sweep.specs.declared.Span.{Span}
+use Rattle.cpp.specs.declared.Kernel2D.{Kernel2D}
+use Rattle.cpp.specs.Kernel.{kernelPlace, kernelAt, lumKernel, chromaKernel}
 use Rattle.sweep.specs.declared.Channels.{Channels}
 use Rattle.sweep.specs.declared.Channels.the-variants.{Luminance, Chrominance}
-use Rattle.base.specs.declared.Rect.{Rect}
-use Rattle.base.specs.Grid.{area, width, height, place}
-use Rattle.base.proofs.Bounds.{index-le, product-le}
-use Rattle.cpp.specs.declared.Kernel2D.{Kernel2D}
-use Rattle.sweep.specs.Sweep.{Centred, InRows, SpanFits, spanOf, first, past, grow, addAt, addPixels, sweepPixel, sweepRow, sweepOf, addKernels}
+use Rattle.sweep.specs.declared.Source.{Source}
+use Rattle.sweep.specs.declared.Span.{Span}
+use Rattle.sweep.specs.Sweep.{Centred, first, past, footprintOf, grow, addAt, addPixels, sweepPixel, sweepRow, sweepOf, addKernels}
+use Rattle.sweep.specs.Part.{Part, RowSpan, pixelOf, rowOf, partOf}
 
 -- ---- along one axis: the centre m lies in the window from a up to b
 pub record Axis (m r a b f p : ℕ) : Type 0 where
@@ -35,67 +38,60 @@ pub record Axis (m r a b f p : ℕ) : Type 0 where
 pub axis : (m r a b : ℕ) → a ≤ m → m < b → Axis m r a b (first m r a) (past m r b)
 axis m r a b h l = record { starts = omega arith; near = omega arith; before = omega arith; order = omega arith; ends = omega arith; within = omega arith }
 
--- the kernel's columns from f + r - m on, as many as f up to p
-columns : (m r f p : ℕ) → m ≤ f + r → f ≤ p → p ≤ m + r + 1 → f + r - m + (p - f) ≤ 2 * r + 1
-columns m r f p a b c = omega arith
+pub whole-part : (k : Kernel2D) (W : Rect) (m : Source) → Centred W (m .x) (m .y) → Part k W m (footprintOf k W (m .x) (m .y))
+whole-part k W m c =
+    let x = axis (m .x) (k .radius) (W .x0) (W .x1) (c .pixel .left) (c .pixel .right) in
+    let y = axis (m .y) (k .radius) (W .y0) (W .y1) (c .pixel .top) (c .pixel .bottom) in
+    record {
+      right-limit = c .right-limit;
+      bottom-limit = c .bottom-limit;
+      columns = x .order;
+      rows = y .order;
+      left = x .starts;
+      right = x .ends;
+      top = y .starts;
+      bottom = y .ends;
+      from-left = x .near;
+      to-right = x .within;
+      from-top = y .near;
+      to-bottom = y .within;
+    }
 
-row-in : (y y0 y1 : ℕ) → y0 ≤ y → y < y1 → y - y0 < y1 - y0
-row-in y y0 y1 a b = omega arith
+pub whole-is : (h : Channels) (cpp : List Float) (k : Kernel2D) (W : Rect) (m : Source) (f : List Float) → partOf h cpp k W m (footprintOf k W (m .x) (m .y)) f ≡ sweepOf h (m .a) cpp k W (m .x) (m .y) f
+unfolding partOf rowOf sweepOf sweepRow
+whole-is h cpp k W m f = refl
 
-kernel-row : (my r y : ℕ) → my ≤ y + r → y < my + r + 1 → y + r - my < 2 * r + 1
-kernel-row my r y a b = omega arith
+-- ---- row y of the part C lies in the window, and in the kernel
 
-inner : (f p x0 x1 : ℕ) → x0 ≤ f → f ≤ p → p ≤ x1 → f - x0 + (p - f) ≤ x1 - x0
-inner f p x0 x1 a b c = omega arith
+-- a kernel within its limits, up to column i of row j
+pub kernel-le : (r i j : ℕ) → r ≤ maxRadius → i ≤ 2 * r + 1 → j < 2 * r + 1 → j * (2 * r + 1) + i ≤ cppChroma
+kernel-le r i j m p q =
+    let s : (2 * r + 1) * (2 * r + 1) ≤ 65 * 65 = product-le (2 * r + 1) (2 * r + 1) 65 65 (omega arith) (omega arith) in
+    omega (arith, s, index-le i j (2 * r + 1) (2 * r + 1) p q)
 
-side-le : (a b : ℕ) → b ≤ 4096 → b - a ≤ 4096
-side-le a b h = omega arith
+in-row : (q a e x : ℕ) → x ≤ a → a ≤ e → 3 * (q + (a - x)) + 0 + 3 * (e - a) ≡ 3 * (q + (e - x))
+in-row q a e x h l = omega arith
 
-three : (a b n : ℕ) → a + b ≤ n → 3 * a + 3 * b ≤ 3 * n
-three a b n h = omega arith
+in-kernel : (b q a e r m : ℕ) → m ≤ a + r → a ≤ e → b + (q + (a + r - m)) + (e - a) ≡ b + (q + (e + r - m))
+in-kernel b q a e r m h l = omega arith
 
-split : (q i n l : ℕ) → q + (i + n) ≤ l → q + i + n ≤ l
-split q i n l h = omega arith
+module _ (k : Kernel2D) (W : Rect) (m : Source) (C : Rect) (y : ℕ) (p : Part k W m C) (few : k .radius ≤ maxRadius) (low : C .y0 ≤ y) (high : y < C .y1) where
+  pub cpe-end-le : place 3 W (C .x0) y 0 + 3 * (C .x1 - C .x0) ≤ 3 * area W
+  unfolding place area width height
+  cpe-end-le =
+      let i = index-le (C .x1 - W .x0) (y - W .y0) (W .x1 - W .x0) (W .y1 - W .y0) (omega (arith, p .right)) (omega (arith, p .top, p .bottom)) in
+      rw (in-row ((y - W .y0) * (W .x1 - W .x0)) (C .x0) (C .x1) (W .x0) (p .left) (p .columns)) (omega (arith, i))
 
-module _ (k : Kernel2D) (W : Rect) (mx my y : ℕ) (c : Centred W mx my) (few : k .radius ≤ 32) (rows : InRows k W my y) where
-  across : Axis mx (k .radius) (W .x0) (W .x1) (first mx (k .radius) (W .x0)) (past mx (k .radius) (W .x1))
-  across = axis mx (k .radius) (W .x0) (W .x1) (c .pixel .left) (c .pixel .right)
+  pub window-le : 3 * area W ≤ 3 * maxPixels
+  unfolding area width height
+  window-le = omega (arith, product-le (W .y1 - W .y0) (W .x1 - W .x0) 4096 4096 (omega (arith, p .bottom-limit)) (omega (arith, p .right-limit)))
 
-  pub in-window : (W .y0 ≤ y) × (y < W .y1)
-  in-window = (omega (arith, rows .0), omega (arith, rows .1))
+  pub cpp-end-le : kernelPlace k (C .x0 + k .radius - m .x) (y + k .radius - m .y) + (C .x1 - C .x0) ≤ k .from + cppChroma
+  cpp-end-le =
+      let i = kernel-le (k .radius) (C .x1 + k .radius - m .x) (y + k .radius - m .y) few (omega (arith, p .to-right)) (omega (arith, p .to-bottom)) in
+      rw (in-kernel (k .from) ((y + k .radius - m .y) * (2 * k .radius + 1)) (C .x0) (C .x1) (k .radius) (m .x) (p .from-left) (p .columns)) (omega (arith, i))
 
-  pub in-kernel : (my ≤ y + k .radius) × (y < my + k .radius + 1)
-  in-kernel = (omega (arith, rows .0), omega (arith, rows .1))
-
-  cpe-row : (y - W .y0) * (W .x1 - W .x0) + (first mx (k .radius) (W .x0) - W .x0) + (past mx (k .radius) (W .x1) - first mx (k .radius) (W .x0)) ≤ (W .y1 - W .y0) * (W .x1 - W .x0)
-  cpe-row =
-      split _ _ _ _ (index-le _ (y - W .y0) (W .x1 - W .x0) (W .y1 - W .y0)
-      (inner _ _ (W .x0) (W .x1) (across .starts) (across .order) (across .ends))
-      (row-in y (W .y0) (W .y1) (in-window .0) (in-window .1)))
-
-  pub kernel-span : (y + k .radius - my) * (2 * k .radius + 1) + (first mx (k .radius) (W .x0) + k .radius - mx) + (past mx (k .radius) (W .x1) - first mx (k .radius) (W .x0)) ≤ 4225
-  kernel-span =
-      let s : (2 * k .radius + 1) * (2 * k .radius + 1) ≤ 65 * 65 = product-le (2 * k .radius + 1) (2 * k .radius + 1) 65 65 (omega (arith, few)) (omega (arith, few)) in
-      let i = split _ _ _ _ (index-le _ (y + k .radius - my) (2 * k .radius + 1) (2 * k .radius + 1)
-      (columns mx (k .radius) _ _ (across .near) (across .order) (across .within))
-      (kernel-row my (k .radius) y (in-kernel .0) (in-kernel .1))) in
-      omega (arith, s, i)
-
-  small-window : (W .y1 - W .y0) * (W .x1 - W .x0) ≤ 16777216
-  small-window = product-le _ _ 4096 4096 (side-le (W .y0) (W .y1) (c .bottom-limit)) (side-le (W .x0) (W .x1) (c .right-limit))
-
-  pub span-fits : k .from ≤ 4225 → SpanFits (spanOf k W mx my y) (3 * area W) (k .from + 4225)
-  unfolding spanOf area width height
-  span-fits h =
-      let e = three _ _ _ cpe-row in
-      record {
-        cpe-end = e;
-        cpe-limit = omega (arith, e, small-window);
-        cpp-end = omega (arith, kernel-span);
-        cpp-limit = omega (arith, kernel-span, h);
-      }
-
--- ---- what is added to the row's part of `cpe` is added to `cpe`
+-- ---- no value is added or lost
 
 pub length-grow : (j : ℕ) (v : Float) (f : List Float) → length (grow j v f) ≡ length f
 unfolding grow
@@ -106,7 +102,6 @@ unfolding addAt
 length-addAt Luminance a v j f = length-grow _ _ f
 length-addAt Chrominance a v j f = length-grow _ _ _ ∙ length-grow _ _ f
 
--- no value is added or lost
 length-sweep : (h : Channels) (a : YyCxCz) (cpp : List Float) (k : Kernel2D) (W : Rect) (mx my : ℕ) (f : List Float) → length (sweepOf h a cpp k W mx my f) ≡ length f
 unfolding sweepOf sweepRow sweepPixel
 length-sweep h a cpp k W mx my f =
@@ -117,8 +112,10 @@ pub length-addKernels : (cpp : List Float) (T : Tiling) (W : Rect) (mx my : ℕ)
 unfolding addKernels
 length-addKernels cpp T W mx my a f = length-sweep Chrominance a cpp (chromaKernel T) W mx my _ ∙ length-sweep Luminance a cpp (lumKernel T) W mx my f
 
+-- ---- a pixel of a part of a list
+
 module _ (b n : ℕ) (xs : List Float) (in-list : b ≤ length xs) where
-  pub grow-part : (j : ℕ) (v : Float) (t : List Float) → j < length t → grow (b + j) v (putMid b n xs t) ≡ putMid b n xs (grow j v t)
+  grow-part : (j : ℕ) (v : Float) (t : List Float) → j < length t → grow (b + j) v (putMid b n xs t) ≡ putMid b n xs (grow j v t)
   unfolding grow
   grow-part j v t h =
       ap (λ (z : Float). set (putMid b n xs t) (b + j) (z +f v)) (get-part b n xs in-list nan t j h)
@@ -135,56 +132,81 @@ module _ (b n : ℕ) (xs : List Float) (in-list : b ≤ length xs) where
       ∙ ap (grow (b + (j + 2)) (a .cz *f v)) (grow-part (j + 1) _ t (omega arith))
       ∙ grow-part (j + 2) _ _ (omega (arith, length-grow (j + 1) (a .cx *f v) t))
 
--- the i-th pixel of the row, in `cpe` and in the kernel
-pub pixel-place : (q x0 x i : ℕ) → x0 ≤ x → 3 * (q + (x + i - x0)) + 0 ≡ 3 * (q + (x - x0)) + 3 * i
+-- what is done to pixel i of a row, whose first value is value j: it keeps the length, and does to a part what it does to the list
+pub record Local (act : ℕ → ℕ → List Float → List Float) : Type 0 where
+  pub keeps : (i j : ℕ) (t : List Float) → length (act i j t) ≡ length t
+  pub in-part : (b n : ℕ) (xs : List Float) → b ≤ length xs → (i j : ℕ) (t : List Float) → j + 2 < length t → act i (b + j) (putMid b n xs t) ≡ putMid b n xs (act i j t)
+
+pub adds : (h : Channels) (a : YyCxCz) (kernel : List Float) → Local (λ i j t. addAt h a (getD kernel i nan) j t)
+adds h a kernel = record {
+  keeps = λ i j t. length-addAt h a (getD kernel i nan) j t;
+  in-part = λ b n xs l i j t e. addAt-part b n xs l h a (getD kernel i nan) j t e;
+}
+
+-- n pixels from value `at` of `cpe` on, lent by their ends
+pub row-is : (act : ℕ → ℕ → List Float → List Float) (d : Local act) (pixel : ℕ → List Float → List Float) (x at n : ℕ) (f : List Float) →
+    ((i : ℕ) → i < n → (t : List Float) → pixel (x + i) t ≡ act i (at + 3 * i) t) → at + 3 * n ≤ length f →
+    putMid at (at + 3 * n - at) f (upTo (λ i. act i (3 * i)) n (midOf at (at + 3 * n - at) f)) ≡ upTo (λ i. pixel (x + i)) n f
+row-is act d pixel x at n f turn fits =
+    let many : at + 3 * n - at ≡ 3 * n = omega arith in
+    let inside : at ≤ length f = omega arith in
+    rw many (sym (fold-part at (3 * n) f inside n (λ i. act i (3 * i)) (λ i. pixel (x + i))
+    (λ i l t e. (d .keeps i (3 * i) t ∙ e, turn i l _ ∙ d .in-part at (3 * n) f inside i (3 * i) t (omega (arith, l, e))))
+    (midOf at (3 * n) f) (length-take-le (3 * n) (drop at f) (omega (arith, length-drop at f))))
+    ∙ ap (upTo (λ i. pixel (x + i)) n) (put-same at (3 * n) f))
+
+-- ---- row y of the part C
+
+-- its i-th pixel, in `cpe` and in the kernel
+pixel-place : (q x0 x i : ℕ) → x0 ≤ x → 3 * (q + (x + i - x0)) + 0 ≡ 3 * (q + (x - x0)) + 0 + 3 * i
 pixel-place q x0 x i h = omega arith
 
-pub kernel-place : (b q x r m i : ℕ) → m ≤ x + r → b + (q + (x + i + r - m)) ≡ b + (q + (x + r - m)) + i
-kernel-place b q x r m i h = omega arith
+kernel-step : (b q x r m i : ℕ) → m ≤ x + r → b + (q + (x + i + r - m)) ≡ b + (q + (x + r - m)) + i
+kernel-step b q x r m i h = omega arith
 
-pub get-mid : (b n i : ℕ) (l : List Float) → i < n → getD (midOf b n l) i nan ≡ getD l (b + i) nan
-get-mid b n i l h = getD-take n (drop b l) i nan h ∙ getD-drop b l i nan
+module _ (h : Channels) (cpp : List Float) (k : Kernel2D) (W : Rect) (m : Source) (C : Rect) (y : ℕ) (p : Part k W m C) (s : Span) (r : RowSpan k W m C y s) where
+  place-is : (i : ℕ) → place 3 W (C .x0 + i) y 0 ≡ s .at + 3 * i
+  unfolding place width
+  place-is i = rw (r .at-is) (pixel-place ((y - W .y0) * (W .x1 - W .x0)) (W .x0) (C .x0) i (p .left))
 
-module _ (h : Channels) (a : YyCxCz) (cpp : List Float) (k : Kernel2D) (W : Rect) (mx my y : ℕ)
-    (c : Centred W mx my) (few : k .radius ≤ 32) (rows : InRows k W my y) (half : k .from ≤ 4225) (f : List Float) (room : length f ≡ 3 * area W) where
-  turn : (i : ℕ) → i < spanOf k W mx my y .pixels → (t : List Float)
-      → sweepPixel h a cpp k W mx my y (first mx (k .radius) (W .x0) + i) t ≡ addAt h a (getD (midOf (spanOf k W mx my y .from) (spanOf k W mx my y .pixels) cpp) i nan) (spanOf k W mx my y .at + 3 * i) t
-  unfolding sweepPixel spanOf kernelAt place width
-  turn i l t =
-      let x = across k W mx my y c few rows in
-      let e = pixel-place ((y - W .y0) * (W .x1 - W .x0)) (W .x0) (first mx (k .radius) (W .x0)) i (x .starts) in
-      let g = kernel-place (k .from) ((y + k .radius - my) * (2 * k .radius + 1)) (first mx (k .radius) (W .x0)) (k .radius) mx i (x .near) in
-      ap (λ (q : ℕ). addAt h a (getD cpp (k .from + ((y + k .radius - my) * (2 * k .radius + 1) + (first mx (k .radius) (W .x0) + i + k .radius - mx))) nan) q t) e
-      ∙ ap (λ (q : ℕ). addAt h a (getD cpp q nan) (spanOf k W mx my y .at + 3 * i) t) g
-      ∙ ap (λ (v : Float). addAt h a v (spanOf k W mx my y .at + 3 * i) t) (sym (get-mid (spanOf k W mx my y .from) (spanOf k W mx my y .pixels) i cpp l))
+  from-is : (i : ℕ) → kernelPlace k (C .x0 + i + k .radius - m .x) (y + k .radius - m .y) ≡ s .from + i
+  from-is i = rw (r .from-is) (kernel-step (k .from) ((y + k .radius - m .y) * (2 * k .radius + 1)) (C .x0) (k .radius) (m .x) i (p .from-left))
 
-  abbrev s : Span
-  s = spanOf k W mx my y
+  -- its pixel is what the code adds there
+  pub pixel-is : (i : ℕ) (t : List Float) → pixelOf h cpp k W m y (C .x0 + i) t ≡ addAt h (m .a) (getD cpp (s .from + i) nan) (s .at + 3 * i) t
+  unfolding sweepPixel kernelAt
+  pixel-is i t = rw (place-is i, from-is i)
 
-  row-fold : s .at ≤ length f → length (midOf (s .at) (3 * s .pixels) f) ≡ 3 * s .pixels →
-      putMid (s .at) (3 * s .pixels) f (addPixels h a (midOf (s .from) (s .pixels) cpp) (s .pixels) (midOf (s .at) (3 * s .pixels) f)) ≡ sweepRow h a cpp k W mx my y f
-  unfolding addPixels sweepRow fromTo spanOf
-  row-fold inside long =
-      sym (fold-part (s .at) (3 * s .pixels) f inside (s .pixels)
-      (λ i. addAt h a (getD (midOf (s .from) (s .pixels) cpp) i nan) (3 * i))
-      (λ i. sweepPixel h a cpp k W mx my y (first mx (k .radius) (W .x0) + i))
-      (λ i l t e. (length-addAt h a _ (3 * i) t ∙ e, turn i l _ ∙ addAt-part (s .at) (3 * s .pixels) f inside h a _ (3 * i) t (omega (arith, l, e))))
-      (midOf (s .at) (3 * s .pixels) f) long)
-      ∙ ap (upTo (λ i. sweepPixel h a cpp k W mx my y (first mx (k .radius) (W .x0) + i)) (s .pixels)) (put-same (s .at) (3 * s .pixels) f)
+  pub row-turn : (n i : ℕ) → i < n → (t : List Float) → pixelOf h cpp k W m y (C .x0 + i) t ≡ addAt h (m .a) (getD (midOf (s .from) (s .from + n - s .from) cpp) i nan) (s .at + 3 * i) t
+  row-turn n i l t =
+      let e : s .from + n - s .from ≡ n = omega arith in
+      pixel-is i t ∙ rw e (ap (λ (v : Float). addAt h (m .a) v (s .at + 3 * i) t) (sym (getD-take n (drop (s .from) cpp) i nan l ∙ getD-drop (s .from) cpp i nan)))
 
-  pub sweep-part : putMid (s .at) (3 * s .pixels) f (addPixels h a (midOf (s .from) (s .pixels) cpp) (s .pixels) (midOf (s .at) (3 * s .pixels) f)) ≡ sweepRow h a cpp k W mx my y f
-  sweep-part =
-      let fits = span-fits k W mx my y c few rows half in
-      row-fold (omega (arith, fits .cpe-end, room))
-      (length-take-le (3 * s .pixels) (drop (s .at) f) (omega (arith, length-drop (s .at) f, fits .cpe-end, room)))
+  pub long-row : k .from + cppChroma ≤ length cpp → length (midOf (s .from) (s .from + s .pixels - s .from) cpp) ≡ s .pixels
+  long-row store =
+      let e : s .from + s .pixels - s .from ≡ s .pixels = omega arith in
+      rw e (length-take-le (s .pixels) (drop (s .from) cpp) (omega (arith, length-drop (s .from) cpp, r .cpp-end, store)))
 
-  -- the same as the code has it: the parts by their ends
-  pub sweep-ends : (t : Span) → t ≡ s → k .from + 4225 ≤ length cpp → (last : List Float)
-      → last ≡ addPixels h a (midOf (t .from) (t .from + t .pixels - t .from) cpp) (length (midOf (t .from) (t .from + t .pixels - t .from) cpp)) (midOf (t .at) (t .at + 3 * t .pixels - t .at) f)
-      → putMid (t .at) (t .at + 3 * t .pixels - t .at) f last ≡ sweepRow h a cpp k W mx my y f
-  sweep-ends t e store last q =
-      let fits = span-fits k W mx my y c few rows half in
-      let many : t .at + 3 * t .pixels - t .at ≡ 3 * t .pixels = omega arith in
-      let few-values : t .from + t .pixels - t .from ≡ t .pixels = omega arith in
-      let long : length (midOf (s .from) (s .pixels) cpp) ≡ s .pixels = length-take-le (s .pixels) (drop (s .from) cpp) (omega (arith, length-drop (s .from) cpp, fits .cpp-end, store)) in
-      rw (q, many, few-values, e, long) sweep-part
+  -- a row that the code adds to the lent part of `cpe`
+  pub sweep-row-is : (f : List Float) → length f ≡ 3 * area W → k .from + cppChroma ≤ length cpp → (last : List Float) →
+      last ≡ addPixels h (m .a) (midOf (s .from) (s .from + s .pixels - s .from) cpp) (length (midOf (s .from) (s .from + s .pixels - s .from) cpp)) (midOf (s .at) (s .at + 3 * s .pixels - s .at) f) →
+      putMid (s .at) (s .at + 3 * s .pixels - s .at) f last ≡ rowOf h cpp k W m C y f
+  unfolding addPixels rowOf fromTo
+  sweep-row-is f room store last e =
+      rw (e, long-row store, ← r .pixels-are)
+      (row-is (λ i j t. addAt h (m .a) (getD (midOf (s .from) (s .from + s .pixels - s .from) cpp) i nan) j t) (adds h (m .a) (midOf (s .from) (s .from + s .pixels - s .from) cpp)) (pixelOf h cpp k W m y) (C .x0) (s .at) (s .pixels) f
+      (λ i l t. row-turn (s .pixels) i l t) (omega (arith, r .cpe-end, room)))
+
+  -- a row of one pixel
+  pub row-one : (f : List Float) → C .x1 ≡ C .x0 + 1 → addAt h (m .a) (getD cpp (s .from) nan) (s .at) f ≡ rowOf h cpp k W m C y f
+  unfolding rowOf
+  row-one f e =
+      let z : C .x0 + 0 ≡ C .x0 = omega arith in
+      let t : s .at + 3 * 0 ≡ s .at = omega arith in
+      let u : s .from + 0 ≡ s .from = omega arith in
+      rw (e, fromTo-more (C .x0) (C .x0) (pixelOf h cpp k W m y) f (omega arith), fromTo-none (C .x0) (C .x0) (pixelOf h cpp k W m y) f (omega arith)) (sym (rw (z, t, u) at (pixel-is 0 f)))
+
+-- an empty row
+pub row-none : (h : Channels) (cpp : List Float) (k : Kernel2D) (W : Rect) (m : Source) (C : Rect) (y : ℕ) (f : List Float) → C .x1 ≤ C .x0 → f ≡ rowOf h cpp k W m C y f
+unfolding rowOf
+row-none h cpp k W m C y f l = sym (fromTo-none (C .x0) (C .x1) (pixelOf h cpp k W m y) f l)

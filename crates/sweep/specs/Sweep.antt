@@ -8,14 +8,14 @@ use lib.Ieee.{Float, nan}
 use Rattle.base.specs.declared.Rect.{Rect}
 use Rattle.base.specs.Loop.{upTo, fromTo}
 use Rattle.base.specs.Grid.{place, Inside}
+use Rattle.base.specs.Limits.{maxSide}
 use Rattle.base.specs.F64.{_+f_, _*f_}
 use Rattle.color.specs.declared.YyCxCz.{YyCxCz}
 use Rattle.tiling.specs.declared.Tiling.{Tiling}
 use Rattle.sweep.specs.declared.Channels.{Channels}
 use Rattle.sweep.specs.declared.Channels.the-variants.{Luminance, Chrominance}
 use Rattle.cpp.specs.declared.Kernel2D.{Kernel2D}
-use Rattle.cpp.specs.Kernel.{lumKernel, chromaKernel, kernelPlace, kernelAt}
-use Rattle.sweep.specs.declared.Span.{Span}
+use Rattle.cpp.specs.Kernel.{lumKernel, chromaKernel, kernelAt}
 
 -- value j of a list grows by v; the list has it, as a pixel of the window has its values
 unfoldable pub grow : ℕ → Float → List Float → List Float
@@ -37,6 +37,15 @@ first m r a = max a (m - r)
 abbrev pub past : ℕ → ℕ → ℕ → ℕ
 past m r b = min b (m + r + 1)
 
+-- the kernel's footprint round (mx, my), cut at the window
+abbrev pub footprintOf : Kernel2D → Rect → ℕ → ℕ → Rect
+footprintOf k W mx my = record {
+  x0 = first mx (k .radius) (W .x0);
+  y0 = first my (k .radius) (W .y0);
+  x1 = past mx (k .radius) (W .x1);
+  y1 = past my (k .radius) (W .y1);
+}
+
 module _ (channels : Channels) (a : YyCxCz) (cpp : List Float) (k : Kernel2D) (W : Rect) (mx my : ℕ) where
   -- pixel (x, y) of the kernel's footprint round (mx, my)
   unfoldable pub sweepPixel : ℕ → ℕ → List Float → List Float
@@ -50,14 +59,6 @@ module _ (channels : Channels) (a : YyCxCz) (cpp : List Float) (k : Kernel2D) (W
   unfoldable pub sweepOf : List Float → List Float
   sweepOf f = fromTo (first my (k .radius) (W .y0)) (past my (k .radius) (W .y1)) sweepRow f
 
--- that row in the slices: its first value in `cpe`, its pixels, its first value in the kernel store
-unfoldable pub spanOf : Kernel2D → Rect → ℕ → ℕ → ℕ → Span
-spanOf k W mx my y = record {
-  at = 3 * ((y - W .y0) * (W .x1 - W .x0) + (first mx (k .radius) (W .x0) - W .x0));
-  pixels = past mx (k .radius) (W .x1) - first mx (k .radius) (W .x0);
-  from = kernelPlace k (first mx (k .radius) (W .x0) + k .radius - mx) (y + k .radius - my);
-}
-
 -- all three channels
 unfoldable pub addKernels : List Float → Tiling → Rect → ℕ → ℕ → YyCxCz → List Float → List Float
 addKernels cpp T W mx my a f =
@@ -66,16 +67,5 @@ addKernels cpp T W mx my a f =
 -- the pixel (mx, my) lies in a window of an image within the limits
 pub record Centred (W : Rect) (mx my : ℕ) : Type 0 where
   pub pixel : Inside W mx my
-  pub right-limit : W .x1 ≤ 4096
-  pub bottom-limit : W .y1 ≤ 4096
-
--- row y of the footprint
-abbrev pub InRows : Kernel2D → Rect → ℕ → ℕ → Type 0
-InRows k W my y = (first my (k .radius) (W .y0) ≤ y) × (y < past my (k .radius) (W .y1))
-
--- the row lies in both slices, of l and m values
-pub record SpanFits (s : Span) (l m : ℕ) : Type 0 where
-  pub cpe-end : s .at + 3 * s .pixels ≤ l
-  pub cpe-limit : s .at + 3 * s .pixels ≤ 50331648
-  pub cpp-end : s .from + s .pixels ≤ m
-  pub cpp-limit : s .from + s .pixels ≤ 8450
+  pub right-limit : W .x1 ≤ maxSide
+  pub bottom-limit : W .y1 ≤ maxSide

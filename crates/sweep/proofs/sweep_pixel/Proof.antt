@@ -1,59 +1,50 @@
--- `sweep::sweep_pixel` meets its contract: the pixel lies in the window and in the kernel. Assumes nothing.
-use mathlib.Core.Path.{_≡_}
+-- `sweep::sweep_pixel` meets its contract: one pixel, or none. Assumes nothing.
+use mathlib.Core.Path.{_≡_, refl, sym, ap, _∙_}
+use Prim.Native.Nat.{_+_, _-_}
 use native.Mathlib.Omega.{arith}
+use Rattle.sweep.proofs.Laws.{row-one, row-none}
 use borrow.Author.Needs.{needs}
-use Rattle.base.specs.Grid.{Inside}
-use Rattle.sweep.specs.Sweep.{Centred, sweepPixel}
 use Rattle.sweep.proofs.sweep_pixel.Statement.{statement}
 use Rattle.sweep.proofs.sweep_pixel.Tie as tie
 
-inside : (s : tie.Start) → Inside (s .args .w) (s .args .x) (s .args .y)
-inside s =
-    let p = s .pre .1 .1 .0 in
-    let i = s .pre .1 .1 .1 in
-    record { left = omega (arith, p .left, i .0); right = omega (arith, p .right, i .1); top = omega (arith, p .top, i .2); bottom = omega (arith, p .bottom, i .3) }
+part-at-requires : tie.Need-part-at-requires
+part-at-requires c κs = search needs
 
-add-kernel-at : tie.Need-add-kernel-at
-add-kernel-at c = omega (arith, inside (c .before .before .before) .right, c .before .before .before .pre .1 .1 .0 .right-limit, c .before .before .before .pre .0 .most)
+mul-add-at : tie.Need-mul-add-at
+mul-add-at c = search needs
 
-sub-kernel-at : tie.Need-sub-kernel-at
-sub-kernel-at c = omega (arith, c .before .before .before .before .pre .1 .1 .0 .from-left, c .before .before .before .before .pre .1 .1 .1 .0)
-
-add-kernel-at-2 : tie.Need-add-kernel-at-2
-add-kernel-at-2 c = omega (arith, inside (c .before .before .before .before .before) .bottom, c .before .before .before .before .before .pre .1 .1 .0 .bottom-limit, c .before .before .before .before .before .pre .0 .most)
-
-sub-kernel-at-2 : tie.Need-sub-kernel-at-2
-sub-kernel-at-2 c = omega (arith, c .before .before .before .before .before .before .pre .1 .1 .0 .from-top, c .before .before .before .before .before .before .pre .1 .1 .1 .2)
-
-kernel-at-requires : tie.Need-kernel-at-requires
-kernel-at-requires c κs =
-    let p = c .before .before .before .before .before .before .pre .1 .1 .0 in
-    let i = c .before .before .before .before .before .before .pre .1 .1 .1 in
-    (c .before .before .before .before .before .before .pre .0, (omega (arith, p .to-right, i .1, p .from-left, i .0), omega (arith, p .to-bottom, i .3, p .from-top, i .2)))
-
-place-of-requires : tie.Need-place-of-requires
-place-of-requires c κs = record { pixel = inside (c .before .before .before .before .before .before .before .before); right-limit = c .before .before .before .before .before .before .before .before .pre .1 .1 .0 .right-limit; bottom-limit = c .before .before .before .before .before .before .before .before .pre .1 .1 .0 .bottom-limit }
+shared-slice-read-add-at : tie.Need-shared-slice-read-add-at
+shared-slice-read-add-at c = search needs
 
 add-at-requires : tie.Need-add-at-requires
-add-at-requires c κs = omega (arith, c .place-of .ensures .1, c .before .before .before .before .before .before .before .before .before .pre .1 .0)
+add-at-requires c κs = search needs
 
 same-length : tie.Need-same-length
 same-length c = search needs
 
 returns : tie.Need-returns
-unfolding sweepPixel
-returns c = rw (c .before .before .add-at .ensures, c .before .before .before .before .before .kernel-at .ensures, c .before .before .before .place-of .ensures .0)
+returns c =
+    let s = c .before .before .before .before .before .before .before .before .before .before in
+    let o = c .before .before .before .before .before .before .before in
+    let a = s .args in
+    rw (c .before .before .add-at .ensures)
+    (row-one (a .channels) (a .cpp .now) (a .k) (a .w) (a .m) (a .c) (a .y) (s .pre .1 .1 .0) (o .part-at .result) (o .part-at .ensures) (a .cpe .now) (omega (arith, c .before .before .before .before .before .if1 .taken, o .part-at .ensures .pixels-are, s .pre .1 .1 .1)))
+
+returns-2 : tie.Need-returns-2
+returns-2 c =
+    let s = c .before .before .before .before .before in
+    let o = c .before .before in
+    let a = s .args in
+    row-none (a .channels) (a .cpp .now) (a .k) (a .w) (a .m) (a .c) (a .y) (a .cpe .now) (omega (arith, c .if1 .left, o .part-at .ensures .pixels-are))
 
 pub sweep-pixel-spec : {M : Type 1} → statement M
 sweep-pixel-spec =
     tie.close
     (tie.spec
-    add-kernel-at
-    sub-kernel-at
-    add-kernel-at-2
-    sub-kernel-at-2
-    kernel-at-requires
-    place-of-requires
+    part-at-requires
+    mul-add-at
+    shared-slice-read-add-at
     add-at-requires
     same-length
-    returns)
+    returns
+    returns-2)

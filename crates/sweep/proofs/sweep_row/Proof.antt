@@ -1,12 +1,12 @@
--- `sweep::sweep_row` meets its contract: what is added to the parts is added to the row, by `sweep-ends`. Assumes nothing.
+-- `sweep::sweep_row` meets its contract: what is added to the lent part is added to the row, by `sweep-row-is`. Assumes nothing.
 use native.Mathlib.Omega.{arith}
-use Rattle.sweep.proofs.Laws.{sweep-ends}
+use Rattle.sweep.proofs.Laws.{sweep-row-is}
 use borrow.Author.Needs.{needs}
 use Rattle.sweep.proofs.sweep_row.Statement.{statement}
 use Rattle.sweep.proofs.sweep_row.Tie as tie
 
-span-at-requires : tie.Need-span-at-requires
-span-at-requires c κs = search needs
+part-at-requires : tie.Need-part-at-requires
+part-at-requires c κs = search needs
 
 mul-at-end : tie.Need-mul-at-end
 mul-at-end c = search needs
@@ -49,17 +49,17 @@ same-length c = search needs
 
 returns : tie.Need-returns
 returns c =
-    let start = c .before .before .before .before .before .before .before .before .before .before in
-    let fits = start .pre .0 in
-    sweep-ends (start .args .channels) (start .args .a) (start .args .cpp .now) (start .args .k) (start .args .w) (start .args .mx) (start .args .my) (start .args .y)
-    (start .pre .1 .0) (fits .most) (start .pre .1 .1 .1) (omega (arith, fits .room, fits .all)) (start .args .cpe .now) (start .pre .1 .1 .0)
-    (c .before .before .before .before .before .before .before .span-at .result) (c .before .before .before .before .before .before .before .span-at .ensures .0) (fits .room) (c .before .before .add-row .last .0) (c .before .before .add-row .ensures)
+    let s = c .before .before .before .before .before .before .before .before .before .before in
+    let o = c .before .before .before .before .before .before .before in
+    let a = s .args in
+    sweep-row-is (a .channels) (a .cpp .now) (a .k) (a .w) (a .m) (a .c) (a .y) (s .pre .1 .1 .0) (o .part-at .result) (o .part-at .ensures)
+    (a .cpe .now) (s .pre .1 .0) (s .pre .0 .room) (c .before .before .add-row .last .0) (c .before .before .add-row .ensures)
 
 pub sweep-row-spec : {M : Type 1} → statement M
 sweep-row-spec =
     tie.close
     (tie.spec
-    span-at-requires
+    part-at-requires
     mul-at-end
     add-at-end
     add-from-end

@@ -1,0 +1,63 @@
+-- `both::share_rows` meets its contract: the invariant is the fold so far. Assumes nothing.
+use mathlib.Core.Path.{_≡_, refl, sym, _∙_}
+use Prim.Native.Nat.{ℕ, _-_, _≤_}
+use native.Mathlib.Omega.{arith}
+use lib.ListN.{length}
+use borrow.Author.Needs.{needs}
+use Rattle.base.specs.Loop.{fromTo}
+use Rattle.base.proofs.LoopLaws.{fromTo-none, fromTo-more}
+use Rattle.both.specs.Both.{shareRow, shareOf}
+use Rattle.both.proofs.share_rows.Statement.{statement}
+use Rattle.both.proofs.share_rows.Tie as tie
+
+abbrev Inv-loop : tie.InvT-loop
+Inv-loop cpe₀ cpp k channels w m n s end y₀ cpe y =
+    (y₀ ≤ y) × (y ≤ end) × (length cpe ≡ length cpe₀) × (cpe ≡ fromTo y₀ y (shareRow channels cpp k w m n s) cpe₀)
+
+abbrev μ-loop : tie.MeasureT-loop
+μ-loop cpe₀ cpp k channels w m n s end y₀ cpe y = end - y
+
+loop-holds : tie.Need-loop-holds Inv-loop μ-loop
+loop-holds c = (omega arith, c .before .before .pre .1 .1 .by-one .rows, refl, sym (fromTo-none _ _ _ _ (omega arith)))
+
+share-row-requires : tie.Need-share-row-requires Inv-loop μ-loop
+share-row-requires c κs =
+    let s = c .before .before .before .before .before in
+    (s .pre .0, (c .before .before .loop .inv .2 ∙ s .pre .1 .0, (s .pre .1 .1, (c .before .before .loop .inv .0, c .before .loop-test .taken))))
+
+add-y : tie.Need-add-y Inv-loop μ-loop
+add-y c =
+    let p = c .before .before .before .before .before .before .before .before .pre .1 .1 .by-one in
+    omega (arith, c .before .before .before .before .loop-test .taken, p .bottom, p .bottom-limit)
+
+loop-less : tie.Need-loop-less Inv-loop μ-loop
+loop-less c = omega (arith, c .before .before .before .before .loop-test .taken)
+
+loop-again : tie.Need-loop-again Inv-loop μ-loop
+loop-again c =
+    let l = c .before .before .before .before .before .loop in
+    let h = l .inv .0 in
+    (omega (arith, h), omega (arith, c .before .before .before .before .loop-test .taken), search needs, rw (fromTo-more _ _ _ _ h, ← l .inv .3) (c .before .before .share-row .ensures))
+
+same-length : tie.Need-same-length Inv-loop μ-loop
+same-length c = c .before .loop .inv .2
+
+returns : tie.Need-returns Inv-loop μ-loop
+unfolding shareOf
+returns c =
+    let e : c .before .loop .y ≡ c .before .before .before .before .args .s .common .y1 = omega (arith, c .before .loop .inv .1, c .loop-test .left) in
+    rw e at (c .before .loop .inv .3)
+
+pub share-rows-spec : {M : Type 1} → statement M
+share-rows-spec =
+    tie.close
+    (tie.spec
+    Inv-loop
+    μ-loop
+    loop-holds
+    share-row-requires
+    add-y
+    loop-less
+    loop-again
+    same-length
+    returns)
