@@ -2,8 +2,8 @@
 // job goes on to the next phase, as the plain walk does.
 use base::Status;
 use job::JobRecord;
-use records::Answer;
 use tiling::Tiling;
+use words::Answer;
 ghost use mathlib.Core.Path.{_≡_};
 ghost use mathlib.Core.Bool.{not, cond, _&&_};
 ghost use mathlib.Core.List.{[], _∷_};
@@ -11,9 +11,11 @@ ghost use Prim.Native.Nat.{_≤_, _<_};
 ghost use lib.Dec.{ltb, eqb};
 ghost use lib.ListN.{length, set};
 ghost use Rattle.base.specs.F64.{_+f_};
+ghost use Rattle.base.specs.Limits.{maxPixels, maxPasses};
 ghost use Rattle.base.specs.Refusal.{test, judge, next, judgeFrom};
 ghost use Rattle.input.specs.Input.{lengthTest};
 ghost use Rattle.tiling.specs.Tiling.{Limits, tiles, inPhase};
+ghost use Rattle.job.specs.Boundary.{closedWith, closeRun};
 ghost use Rattle.job.specs.Close.{firstOf, isMissing, closeTests, withDeltas, released, nextWith, closed, closeOf};
 
 // A tile that waits for a worker, and one that is back.
@@ -152,7 +154,7 @@ fn release(t: Tiling, phase: usize, tile_states: &mut [u8])
 // The record of the next phase, with the error as far as reached.
 fn next_record(r: JobRecord, error: f64) -> JobRecord
     requires { ⌜ r .phase ≤ 3 ⌝ }
-    requires { ⌜ r .done ≤ 1000 ⌝ }
+    requires { ⌜ r .done ≤ maxPasses ⌝ }
     ensures { λ q. ⌜ q ≡ nextWith r error ⌝ }
 {
     let plan = r.plan;
@@ -179,7 +181,7 @@ fn next_record(r: JobRecord, error: f64) -> JobRecord
 
 // The moves of the pass stored after its last phase.
 fn store_count(r: JobRecord, accepted_per_pass: &mut [u32])
-    requires { ⌜ (r .done < length (now «accepted_per_pass»)) × (r .accepted ≤ 16777216) ⌝ }
+    requires { ⌜ (r .done < length (now «accepted_per_pass»)) × (r .accepted ≤ maxPixels) ⌝ }
     ensures { λ _. ⌜ now («accepted_per_pass» .exit) ≡ cond (eqb (r .phase) 3) (set (now («accepted_per_pass» .entry)) (r .done) (r .accepted)) (now («accepted_per_pass» .entry)) ⌝ }
 {
     if r.phase == LAST_PHASE {
@@ -188,7 +190,7 @@ fn store_count(r: JobRecord, accepted_per_pass: &mut [u32])
 }
 
 // Join the phase's deltas to the error and go on to the next phase.
-pub fn close(
+fn close(
     r: JobRecord,
     accepted_per_pass: &mut [u32],
     tile_states: &mut [u8],
@@ -209,4 +211,22 @@ pub fn close(
         status,
         record: next_record(r, error),
     }
+}
+
+// The same on the run that the record is for a C host.
+pub fn close_run(
+    record: &mut [u64],
+    accepted_per_pass: &mut [u32],
+    tile_states: &mut [u8],
+    deltas: &[f64],
+) -> Status
+    ensures { λ s. ⌜ closedWith s (now («record» .exit)) (now («accepted_per_pass» .exit)) (now («tile_states» .exit)) ≡ closeRun (now («record» .entry)) (now («accepted_per_pass» .entry)) (now («tile_states» .entry)) (now (deltas .entry)) ⌝ }
+{
+    let run = words::read(record);
+    let status = run.status;
+    if status.number != 0 {
+        return status;
+    }
+    let closed = close(run.record, accepted_per_pass, tile_states, deltas);
+    words::leave(record, closed)
 }

@@ -1,8 +1,8 @@
 // Put back: a tile's copy is written over its region, its count added and its delta kept.
 use base::Status;
 use job::JobRecord;
-use records::Answer;
 use tiling::Tiling;
+use words::Answer;
 ghost use mathlib.Core.Path.{_≡_};
 ghost use mathlib.Core.List.{[], _∷_};
 ghost use mathlib.Core.Bool.{not, _&&_, _||_};
@@ -17,6 +17,7 @@ ghost use Rattle.tile.specs.Tile.{state};
 ghost use Rattle.job.specs.Record.{pixelsOf, isDue};
 ghost use Rattle.job.specs.Copy.{pixels, writtenBack};
 ghost use Rattle.job.specs.PutBack.{countTest, putBack, putBackTests, putBackOf};
+ghost use Rattle.job.specs.Boundary.{putBackWith, putBackRun};
 ghost use Rattle.job.specs.Valid.{ValidRecord};
 
 // A tile that is with a worker, and one that is back.
@@ -110,7 +111,7 @@ fn write_region(
 }
 
 // Write a copy back over its region, with the count and delta that work answered.
-pub fn put_back(
+fn put_back(
     r: JobRecord,
     tile: u64,
     indices: &mut [u8],
@@ -153,4 +154,39 @@ pub fn put_back(
         finished: r.finished,
     };
     Answer { status, record }
+}
+
+// The same on the run that the record is for a C host.
+pub fn put_back_run(
+    record: &mut [u64],
+    tile: u64,
+    indices: &mut [u8],
+    cpe: &mut [f64],
+    tile_states: &mut [u8],
+    deltas: &mut [f64],
+    copy_cpe: &[f64],
+    copy_indices: &[u8],
+    accepted: u64,
+    delta: f64,
+) -> Status
+    ensures { λ s. ⌜ putBackWith s (now («record» .exit)) (pixels (now (cpe .exit)) (now (indices .exit))) (now («tile_states» .exit)) (now (deltas .exit)) ≡ putBackRun (now («record» .entry)) tile (pixels (now (cpe .entry)) (now (indices .entry))) (now («tile_states» .entry)) (now (deltas .entry)) (state (now («copy_cpe» .entry)) (now («copy_indices» .entry)) (record { accepted = accepted; delta = delta })) ⌝ }
+{
+    let run = words::read(record);
+    let status = run.status;
+    if status.number != 0 {
+        return status;
+    }
+    let back = put_back(
+        run.record,
+        tile,
+        indices,
+        cpe,
+        tile_states,
+        deltas,
+        copy_cpe,
+        copy_indices,
+        accepted,
+        delta,
+    );
+    words::leave(record, back)
 }

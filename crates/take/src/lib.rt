@@ -10,6 +10,8 @@ ghost use Rattle.base.specs.Grid.{area};
 ghost use Rattle.base.specs.Refusal.{judge};
 ghost use Rattle.tiling.specs.Tiling.{Limits, tiles, region, image};
 ghost use Rattle.job.specs.Copy.{pixels, copyOf};
+ghost use Rattle.job.specs.Words.{decode};
+ghost use Rattle.job.specs.Boundary.{takeRun};
 ghost use Rattle.job.specs.Take.{taken, takeTests, takeOf};
 
 // A tile that waits for a worker, and one that is with a worker.
@@ -59,7 +61,7 @@ fn copy_region(
 }
 
 // Copy a tile's region out and mark the tile out.
-pub fn take(
+fn take(
     r: JobRecord,
     tile: u64,
     indices: &[u8],
@@ -85,4 +87,32 @@ pub fn take(
     );
     tile_states[tile as usize] = OUT;
     status
+}
+
+// The same on the run that the record is for a C host, which is only read.
+pub fn take_run(
+    record: &[u64],
+    tile: u64,
+    indices: &[u8],
+    cpe: &[f64],
+    tile_states: &mut [u8],
+    copy_cpe: &mut [f64],
+    copy_indices: &mut [u8],
+) -> Status
+    ensures { λ s. ⌜ taken s (decode (now («record» .entry))) (now («tile_states» .exit)) (pixels (now («copy_cpe» .exit)) (now («copy_indices» .exit))) ≡ takeRun (now («record» .entry)) tile (pixels (now (cpe .entry)) (now (indices .entry))) (now («tile_states» .entry)) (pixels (now («copy_cpe» .entry)) (now («copy_indices» .entry))) ⌝ }
+{
+    let run = words::read(record);
+    let status = run.status;
+    if status.number != 0 {
+        return status;
+    }
+    take(
+        run.record,
+        tile,
+        indices,
+        cpe,
+        tile_states,
+        copy_cpe,
+        copy_indices,
+    )
 }
