@@ -2,6 +2,7 @@
 // job goes on to the next phase, as the plain walk does.
 use base::Status;
 use job::JobRecord;
+use job::TileState;
 use tiling::Tiling;
 use words::Answer;
 ghost use mathlib.Core.Path.{_≡_};
@@ -15,22 +16,19 @@ ghost use Rattle.base.specs.Limits.{maxPixels, maxPasses};
 ghost use Rattle.base.specs.Refusal.{test, judge, next, judgeFrom};
 ghost use Rattle.input.specs.Input.{lengthTest};
 ghost use Rattle.tiling.specs.Tiling.{Limits, tiles, inPhase};
-ghost use Rattle.job.specs.Boundary.{closedWith, closeRun};
+ghost use Rattle.job.specs.declared.TileState.the-variants.{Waiting, Back};
+ghost use Rattle.job.specs.Record.{byteOf, inState};
+ghost use Rattle.job.specs.Boundary.{closeRun};
 ghost use Rattle.job.specs.Close.{firstOf, isMissing, closeTests, withDeltas, released, nextWith, closed, closeOf};
-
-// A tile that waits for a worker, and one that is back.
-const WAITING: u8 = 0;
-
-const BACK: u8 = 2;
 
 const LAST_PHASE: u64 = 3;
 
 // Whether a tile in this state is one of the phase that is not back.
 fn is_missing(t: Tiling, phase: usize, tile: usize, state: u8) -> bool
     requires { ⌜ Limits t ⌝ }
-    ensures { λ b. ⌜ b ≡ (inPhase t phase tile && not (ltb 1 state)) ⌝ }
+    ensures { λ b. ⌜ b ≡ (inPhase t phase tile && not (inState Back state)) ⌝ }
 {
-    tiling::is_in_phase(t, phase, tile) && state < BACK
+    tiling::is_in_phase(t, phase, tile) && !job::is_in(state, TileState::Back)
 }
 
 // The first tile of the phase that is not back, or the number of tiles.
@@ -132,10 +130,10 @@ fn add_deltas(t: Tiling, phase: usize, deltas: &[f64], error: f64) -> f64
 // The state of a tile once the phase is closed.
 fn released_state(t: Tiling, phase: usize, tile: usize, state: u8) -> u8
     requires { ⌜ Limits t ⌝ }
-    ensures { λ b. ⌜ b ≡ cond (inPhase t phase tile) 0 state ⌝ }
+    ensures { λ b. ⌜ b ≡ cond (inPhase t phase tile) (byteOf Waiting) state ⌝ }
 {
     if tiling::is_in_phase(t, phase, tile) {
-        return WAITING;
+        return job::state_byte(TileState::Waiting);
     }
     state
 }
@@ -158,25 +156,19 @@ fn next_record(r: JobRecord, error: f64) -> JobRecord
     ensures { λ q. ⌜ q ≡ nextWith r error ⌝ }
 {
     let plan = r.plan;
+    let mut next = r;
+    next.error = error;
     if r.phase == LAST_PHASE {
         let done = r.done + 1;
-        return JobRecord {
-            plan,
-            done,
-            phase: 0,
-            accepted: 0,
-            error,
-            finished: r.accepted == 0 || plan.allowed <= done,
-        };
+        next.done = done;
+        next.phase = 0;
+        next.accepted = 0;
+        next.finished = r.accepted == 0 || plan.allowed <= done;
+        return next;
     }
-    JobRecord {
-        plan,
-        done: r.done,
-        phase: r.phase + 1,
-        accepted: r.accepted,
-        error,
-        finished: false,
-    }
+    next.phase = r.phase + 1;
+    next.finished = false;
+    next
 }
 
 // The moves of the pass stored after its last phase.
@@ -220,7 +212,7 @@ pub fn close_run(
     tile_states: &mut [u8],
     deltas: &[f64],
 ) -> Status
-    ensures { λ s. ⌜ closedWith s (now («record» .exit)) (now («accepted_per_pass» .exit)) (now («tile_states» .exit)) ≡ closeRun (now («record» .entry)) (now («accepted_per_pass» .entry)) (now («tile_states» .entry)) (now (deltas .entry)) ⌝ }
+    ensures { λ s. ⌜ closed s (now («record» .exit)) (now («accepted_per_pass» .exit)) (now («tile_states» .exit)) ≡ closeRun (now («record» .entry)) (now («accepted_per_pass» .entry)) (now («tile_states» .entry)) (now (deltas .entry)) ⌝ }
 {
     let run = words::read(record);
     let status = run.status;

@@ -14,11 +14,13 @@ ghost use Rattle.refine.specs.Refine.{refinement, refineOf};
 ghost use Rattle.base.specs.Refusal.{status};
 ghost use Rattle.tile.specs.Tile.{state};
 ghost use Rattle.job.specs.Copy.{pixels};
-ghost use Rattle.job.specs.Open.{opening};
+ghost use Rattle.job.specs.Open.{opening, opened};
 ghost use Rattle.job.specs.Take.{taken};
 ghost use Rattle.job.specs.Work.{worked};
+ghost use Rattle.job.specs.PutBack.{putBack};
+ghost use Rattle.job.specs.Close.{closed};
 ghost use Rattle.job.specs.Words.{decode};
-ghost use Rattle.job.specs.Boundary.{openedRun, openRun, takeRun, workRun, putBackWith, putBackRun, closedWith, closeRun};
+ghost use Rattle.job.specs.Boundary.{openRun, takeRun, workRun, putBackRun, closeRun};
 
 // Refine the indices in place, by the plain walk over the whole image.
 #[no_mangle]
@@ -99,7 +101,7 @@ pub extern "C" fn dbs_open(
     deltas: &mut [f64],
     inks: &mut [f64],
 ) -> Status
-    ensures { λ s. ⌜ openedRun s (now («record» .exit)) (now (cpe .exit)) (now (cpp .exit)) (now («tile_states» .exit)) (now (deltas .exit)) (now (inks .exit)) ≡ openRun (now («record» .entry)) (opening (input width height (now (pixels .entry)) (now (palette .entry)) (now (indices .entry)) (now (pinned .entry)) (record { «viewing_distance_cm» = «viewing_distance_cm»; ppi = ppi })) «max_passes» (now (cpe .entry)) (now (cpp .entry)) (now («accepted_per_pass» .entry)) (now («tile_states» .entry)) (now (deltas .entry)) (now (inks .entry))) ⌝ }
+    ensures { λ s. ⌜ opened s (now («record» .exit)) (now (cpe .exit)) (now (cpp .exit)) (now («tile_states» .exit)) (now (deltas .exit)) (now (inks .exit)) ≡ openRun (now («record» .entry)) (opening (input width height (now (pixels .entry)) (now (palette .entry)) (now (indices .entry)) (now (pinned .entry)) (record { «viewing_distance_cm» = «viewing_distance_cm»; ppi = ppi })) «max_passes» (now (cpe .entry)) (now (cpp .entry)) (now («accepted_per_pass» .entry)) (now («tile_states» .entry)) (now (deltas .entry)) (now (inks .entry))) ⌝ }
 {
     let params = DbsParams {
         viewing_distance_cm,
@@ -178,7 +180,7 @@ pub extern "C" fn dbs_put_back(
     accepted: u64,
     delta: f64,
 ) -> Status
-    ensures { λ s. ⌜ putBackWith s (now («record» .exit)) (pixels (now (cpe .exit)) (now (indices .exit))) (now («tile_states» .exit)) (now (deltas .exit)) ≡ putBackRun (now («record» .entry)) tile (pixels (now (cpe .entry)) (now (indices .entry))) (now («tile_states» .entry)) (now (deltas .entry)) (state (now («copy_cpe» .entry)) (now («copy_indices» .entry)) (record { accepted = accepted; delta = delta })) ⌝ }
+    ensures { λ s. ⌜ putBack s (now («record» .exit)) (pixels (now (cpe .exit)) (now (indices .exit))) (now («tile_states» .exit)) (now (deltas .exit)) ≡ putBackRun (now («record» .entry)) tile (pixels (now (cpe .entry)) (now (indices .entry))) (now («tile_states» .entry)) (now (deltas .entry)) (state (now («copy_cpe» .entry)) (now («copy_indices» .entry)) (record { accepted = accepted; delta = delta })) ⌝ }
 {
     putback::put_back_run(
         record,
@@ -202,7 +204,7 @@ pub extern "C" fn dbs_close(
     tile_states: &mut [u8],
     deltas: &[f64],
 ) -> Status
-    ensures { λ s. ⌜ closedWith s (now («record» .exit)) (now («accepted_per_pass» .exit)) (now («tile_states» .exit)) ≡ closeRun (now («record» .entry)) (now («accepted_per_pass» .entry)) (now («tile_states» .entry)) (now (deltas .entry)) ⌝ }
+    ensures { λ s. ⌜ closed s (now («record» .exit)) (now («accepted_per_pass» .exit)) (now («tile_states» .exit)) ≡ closeRun (now («record» .entry)) (now («accepted_per_pass» .entry)) (now («tile_states» .entry)) (now (deltas .entry)) ⌝ }
 {
     close::close_run(record, accepted_per_pass, tile_states, deltas)
 }

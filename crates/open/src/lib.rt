@@ -4,6 +4,7 @@ use eye::DbsParams;
 use eye::Eye;
 use job::JobRecord;
 use job::Plan;
+use job::TileState;
 use tiling::Tiling;
 use words::Answer;
 ghost use mathlib.Core.Path.{_≡_};
@@ -13,8 +14,10 @@ ghost use Rattle.base.specs.Refusal.{judge};
 ghost use Rattle.tiling.specs.Tiling.{tiles};
 ghost use Rattle.input.specs.Input.{input, openTests};
 ghost use Rattle.prepare.specs.Prepare.{tilingOf};
+ghost use Rattle.job.specs.declared.TileState.the-variants.{Waiting};
+ghost use Rattle.job.specs.Record.{byteOf};
 ghost use Rattle.job.specs.Open.{opening, opened, openOf};
-ghost use Rattle.job.specs.Boundary.{openedRun, openRun};
+ghost use Rattle.job.specs.Boundary.{openRun};
 
 // Refusals 1 to 11, and both kernel radii where none applies.
 fn check(
@@ -71,10 +74,10 @@ fn check(
 
 // Every tile waiting.
 fn clear_states(tile_states: &mut [u8])
-    ensures { λ _. ⌜ now («tile_states» .exit) ≡ replicate (length (now («tile_states» .entry))) 0 ⌝ }
+    ensures { λ _. ⌜ now («tile_states» .exit) ≡ replicate (length (now («tile_states» .entry))) (byteOf Waiting) ⌝ }
 {
     for i in 0..tile_states.len() {
-        tile_states[i] = 0;
+        tile_states[i] = job::state_byte(TileState::Waiting);
     }
 }
 
@@ -179,7 +182,7 @@ pub fn open_run(
     deltas: &mut [f64],
     inks: &mut [f64],
 ) -> Status
-    ensures { λ s. ⌜ openedRun s (now («record» .exit)) (now (cpe .exit)) (now (cpp .exit)) (now («tile_states» .exit)) (now (deltas .exit)) (now (inks .exit)) ≡ openRun (now («record» .entry)) (opening (input width height (now (pixels .entry)) (now (palette .entry)) (now (indices .entry)) (now (pinned .entry)) params) «max_passes» (now (cpe .entry)) (now (cpp .entry)) (now («accepted_per_pass» .entry)) (now («tile_states» .entry)) (now (deltas .entry)) (now (inks .entry))) ⌝ }
+    ensures { λ s. ⌜ opened s (now («record» .exit)) (now (cpe .exit)) (now (cpp .exit)) (now («tile_states» .exit)) (now (deltas .exit)) (now (inks .exit)) ≡ openRun (now («record» .entry)) (opening (input width height (now (pixels .entry)) (now (palette .entry)) (now (indices .entry)) (now (pinned .entry)) params) «max_passes» (now (cpe .entry)) (now (cpp .entry)) (now («accepted_per_pass» .entry)) (now («tile_states» .entry)) (now (deltas .entry)) (now (inks .entry))) ⌝ }
 {
     let run = words::check_run(record.len());
     if run.number != 0 {

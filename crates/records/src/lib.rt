@@ -3,20 +3,21 @@
 use base::Rect;
 use base::Status;
 use job::JobRecord;
+use job::TileState;
 use tiling::Tiling;
 ghost use mathlib.Core.Path.{_≡_};
 ghost use mathlib.Core.Bool.{not, _&&_};
 ghost use mathlib.Core.List.{[], _∷_};
 ghost use Prim.Native.Nat.{_*_, _≤_, _<_};
 ghost use lib.Dec.{leb, ltb, eqb};
-ghost use lib.ListN.{length, getD, take};
+ghost use lib.ListN.{length, take};
 ghost use Rattle.base.specs.Grid.{area};
 ghost use Rattle.base.specs.Limits.{maxSide};
 ghost use Rattle.base.specs.Refusal.{test, accepted, next, judgeFrom};
 ghost use Rattle.input.specs.Input.{lengthTest};
 ghost use Rattle.tiling.specs.Tiling.{Limits, tiles, region};
 ghost use Rattle.tiling.specs.Tiling as spec;
-ghost use Rattle.job.specs.Record.{radiusFits, recordTests, isDue};
+ghost use Rattle.job.specs.Record.{radiusFits, recordTests, isDue, isIn};
 ghost use Rattle.job.specs.Work.{copyTest};
 
 fn is_radius(radius: usize) -> bool
@@ -163,14 +164,14 @@ pub fn check_copy(
 }
 
 // Refusal 14: a tile that is not in this state.
-pub fn check_state(s: Status, tile_states: &[u8], tile: usize, wanted: u8) -> Status
+pub fn check_state(s: Status, tile_states: &[u8], tile: usize, wanted: TileState) -> Status
     requires { ⌜ (s .number ≡ 0 → tile < length (now «tile_states»)) ⌝ }
-    ensures { λ u. ⌜ u ≡ next s (test (not (eqb (getD (now («tile_states» .entry)) tile 0) wanted)) 14 0) ⌝ }
+    ensures { λ u. ⌜ u ≡ next s (test (not (isIn wanted (now («tile_states» .entry)) tile)) 14 0) ⌝ }
 {
     if s.number != 0 {
         return s;
     }
-    base::next(s, tile_states[tile] != wanted, 14, 0)
+    base::next(s, !job::is_in(tile_states[tile], wanted), 14, 0)
 }
 
 // Refusal 6 of a copy.

@@ -2,6 +2,7 @@
 // parts of the lent copies.
 use base::Status;
 use job::JobRecord;
+use job::TileState;
 use tiling::Tiling;
 ghost use mathlib.Core.Path.{_≡_};
 ghost use Prim.Native.Nat.{_*_, _<_};
@@ -13,11 +14,6 @@ ghost use Rattle.job.specs.Copy.{pixels, copyOf};
 ghost use Rattle.job.specs.Words.{decode};
 ghost use Rattle.job.specs.Boundary.{takeRun};
 ghost use Rattle.job.specs.Take.{taken, takeTests, takeOf};
-
-// A tile that waits for a worker, and one that is with a worker.
-const WAITING: u8 = 0;
-
-const OUT: u8 = 1;
 
 // Refusals 12, 16, 13, 3, 11 and 14.
 fn check_take(
@@ -37,7 +33,7 @@ fn check_take(
     let s2 = records::check_turn(s1, r, tile);
     let s3 = records::check_image(s2, t, indices.len(), cpe.len(), tile_states.len());
     let s4 = records::check_copy(s3, t, tile as usize, copy_cpe.len(), copy_indices.len());
-    records::check_state(s4, tile_states, tile as usize, WAITING)
+    records::check_state(s4, tile_states, tile as usize, TileState::Waiting)
 }
 
 // The region of a tile into both copies.
@@ -85,7 +81,7 @@ fn take(
         copy_cpe,
         copy_indices,
     );
-    tile_states[tile as usize] = OUT;
+    tile_states[tile as usize] = job::state_byte(TileState::Out);
     status
 }
 

@@ -12,7 +12,7 @@ use Rattle.base.proofs.RefusalLaws.{Numbered}
 use Rattle.base.proofs.JudgeLaws.{passes-of-zero, judge-zero}
 use Rattle.input.proofs.Limits.{length-iff}
 use Rattle.job.specs.declared.JobRecord.{JobRecord}
-use Rattle.job.specs.Words.{runTest, wordsTests, decode}
+use Rattle.job.specs.Words.{runLength, runTest, wordsTests, decode}
 use Rattle.job.specs.Boundary.{onRun}
 
 wordsNumbered : (words : List ℕ) → Numbered (wordsTests words)
@@ -35,19 +35,19 @@ module _ (ts : List Test) (n : Numbered ts) {s : Status} (e : s ≡ judge ts) wh
 pub refused : {s : Status} → (s .number ≡ 0 → ⊥) → s ≡ accepted → ⊥
 refused f e = f (ap (λ (u : Status). u .number) e)
 
--- ---- a run that passes has 12 numbers
+-- ---- a run that passes is whole
 
 module _ (words : List ℕ) {s : Status} where
   pub written-ok : s ≡ judge (runTest words ∷ []) → s .number ≡ 0 → judge (runTest words ∷ []) ≡ accepted
   written-ok e z = judged (runTest words ∷ []) (runNumbered words) e z
 
-  pub written-twelve : s ≡ judge (runTest words ∷ []) → s .number ≡ 0 → length words ≡ 12
+  pub written-whole : s ≡ judge (runTest words ∷ []) → s .number ≡ 0 → length words ≡ runLength
   unfolding Passes runTest
-  written-twelve e z = length-iff (length words) 12 .0 (passes (runTest words ∷ []) (runNumbered words) e z .0)
+  written-whole e z = length-iff (length words) runLength .0 (passes (runTest words ∷ []) (runNumbered words) e z .0)
 
-  pub read-twelve : s ≡ judge (wordsTests words) → s .number ≡ 0 → length words ≡ 12
+  pub read-whole : s ≡ judge (wordsTests words) → s .number ≡ 0 → length words ≡ runLength
   unfolding Passes runTest wordsTests
-  read-twelve e z = length-iff (length words) 12 .0 (passes (wordsTests words) (wordsNumbered words) e z .0)
+  read-whole e z = length-iff (length words) runLength .0 (passes (wordsTests words) (wordsNumbered words) e z .0)
 
 -- ---- the calls that read the run
 

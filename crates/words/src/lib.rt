@@ -5,18 +5,18 @@ use job::JobRecord;
 use job::Plan;
 use tiling::Tiling;
 ghost use mathlib.Core.Path.{_≡_};
-ghost use mathlib.Core.Bool.{not, cond};
+ghost use mathlib.Core.Bool.{not};
 ghost use mathlib.Core.List.{[], _∷_};
 ghost use lib.Dec.{eqb};
 ghost use lib.ListN.{length};
-ghost use Rattle.base.specs.Refusal.{test, judge, isAccepted};
+ghost use Rattle.base.specs.Refusal.{test, judge};
 ghost use Rattle.job.specs.Open.{zeroRecord};
-ghost use Rattle.job.specs.Boundary.{wordsAfter};
-ghost use Rattle.job.specs.Words.{wordsTests, wordsWith, wordOver, rewritten};
+ghost use Rattle.job.specs.Boundary.{wordsOpened, wordsAfter};
+ghost use Rattle.job.specs.Words.{runLength, wordsTests, wordsWith, wordOver, rewritten};
 ghost use Rattle.job.specs.Words as run;
 
 // Numbers in a run.
-const RECORD_LEN: usize = 12;
+pub const RECORD_LEN: usize = 12;
 
 // A call's answer with the record that it returns.
 pub struct Answer {
@@ -53,7 +53,7 @@ pub fn refused(status: Status) -> Answer
 
 // Refusal 12 of a run's length.
 pub fn check_run(words_len: usize) -> Status
-    ensures { λ s. ⌜ s ≡ judge (test (not (eqb «words_len» 12)) 12 0 ∷ []) ⌝ }
+    ensures { λ s. ⌜ s ≡ judge (test (not (eqb «words_len» runLength)) 12 0 ∷ []) ⌝ }
 {
     base::next(base::ok(), words_len != RECORD_LEN, 12, 0)
 }
@@ -71,7 +71,7 @@ fn check_words(words: &[u64]) -> Status
 
 // The record of a run.
 fn decode(words: &[u64]) -> JobRecord
-    requires { ⌜ length (now words) ≡ 12 ⌝ }
+    requires { ⌜ length (now words) ≡ runLength ⌝ }
     ensures { λ r. ⌜ r ≡ run.decode (now (words .entry)) ⌝ }
 {
     let t = Tiling {
@@ -120,7 +120,7 @@ fn copy_words(from: &[u64], to: &mut [u64])
 
 // A record with the words of its errors.
 fn write_words(words: &mut [u64], r: JobRecord, initial: u64, error: u64)
-    requires { ⌜ length (now words) ≡ 12 ⌝ }
+    requires { ⌜ length (now words) ≡ runLength ⌝ }
     ensures { λ _. ⌜ now (words .exit) ≡ wordsWith initial error r ⌝ }
 {
     let plan = r.plan;
@@ -144,7 +144,7 @@ fn write_words(words: &mut [u64], r: JobRecord, initial: u64, error: u64)
 
 // A run that holds this record.
 fn encode(words: &mut [u64], r: JobRecord)
-    requires { ⌜ length (now words) ≡ 12 ⌝ }
+    requires { ⌜ length (now words) ≡ runLength ⌝ }
     ensures { λ _. ⌜ now (words .exit) ≡ run.encode r ⌝ }
 {
     let plan = r.plan;
@@ -155,7 +155,7 @@ fn encode(words: &mut [u64], r: JobRecord)
 
 // The run after a call that was given it and returned this record.
 fn rewrite(words: &mut [u64], r: JobRecord)
-    requires { ⌜ length (now words) ≡ 12 ⌝ }
+    requires { ⌜ length (now words) ≡ runLength ⌝ }
     ensures { λ _. ⌜ now (words .exit) ≡ rewritten (now (words .entry)) r ⌝ }
 {
     let plan = r.plan;
@@ -167,7 +167,7 @@ fn rewrite(words: &mut [u64], r: JobRecord)
 // A run that a call is given, as its record.
 pub fn read(words: &[u64]) -> Answer
     ensures { λ a. ⌜ a .status ≡ judge (wordsTests (now (words .entry))) ⌝ }
-    ensures { λ a. ⌜ (a .status .number ≡ 0 → (length (now (words .entry)) ≡ 12) × (a .record ≡ run.decode (now (words .entry)))) ⌝ }
+    ensures { λ a. ⌜ (a .status .number ≡ 0 → (length (now (words .entry)) ≡ runLength) × (a .record ≡ run.decode (now (words .entry)))) ⌝ }
 {
     let status = check_words(words);
     if status.number != 0 {
@@ -181,7 +181,7 @@ pub fn read(words: &[u64]) -> Answer
 
 // The answer of a call that was given this run: where it is accepted the run is rewritten.
 pub fn leave(words: &mut [u64], a: Answer) -> Status
-    requires { ⌜ length (now words) ≡ 12 ⌝ }
+    requires { ⌜ length (now words) ≡ runLength ⌝ }
     ensures { λ s. ⌜ (s ≡ a .status) × (now (words .exit) ≡ wordsAfter (now (words .entry)) (a .status) (a .record)) ⌝ }
 {
     let status = a.status;
@@ -193,8 +193,8 @@ pub fn leave(words: &mut [u64], a: Answer) -> Status
 
 // The answer of an open: where it is accepted the run is written.
 pub fn enter(words: &mut [u64], a: Answer) -> Status
-    requires { ⌜ length (now words) ≡ 12 ⌝ }
-    ensures { λ s. ⌜ (s ≡ a .status) × (now (words .exit) ≡ cond (isAccepted (a .status)) (run.encode (a .record)) (now (words .entry))) ⌝ }
+    requires { ⌜ length (now words) ≡ runLength ⌝ }
+    ensures { λ s. ⌜ (s ≡ a .status) × (now (words .exit) ≡ wordsOpened (now (words .entry)) (a .status) (a .record)) ⌝ }
 {
     let status = a.status;
     if base::is_accepted(status) {

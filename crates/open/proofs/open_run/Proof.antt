@@ -2,7 +2,7 @@
 use Rattle.input.specs.Input.{input}
 use Rattle.job.specs.Open.{Opening, opening}
 use Rattle.job.specs.Words.{runTest}
-use Rattle.words.proofs.RunLaws.{written-twelve}
+use Rattle.words.proofs.RunLaws.{written-whole}
 use Rattle.open.proofs.Laws.{run-refused, run-written}
 use borrow.Author.Needs.{needs}
 use Rattle.open.proofs.open_run.Statement.{statement}
@@ -40,7 +40,7 @@ unfolding runTest
 enter-requires c κs =
     let k = passed (c .before .before .before .before .before .before .before .before .before .before .before) in
     let r = k .before .before in
-    written-twelve (start r .args .«record» .now) (r .check-run .ensures) (k .if1 .left)
+    written-whole (start r .args .«record» .now) (r .check-run .ensures) (k .if1 .left)
 
 same-length : tie.Need-same-length
 same-length c = search needs

@@ -1,4 +1,4 @@
--- `check_words` meets its contract: a word is read only of a run of 12. Assumes nothing.
+-- `check_words` meets its contract: a word is read only of a whole run. Assumes nothing.
 use mathlib.Core.Path.{_≡_, sym, ap, _∙_}
 use mathlib.Core.Bool.{not}
 use mathlib.Core.List.{[], _∷_}
@@ -10,12 +10,12 @@ use Rattle.base.specs.Refusal.{test, accepted, next, Passes}
 use Rattle.base.proofs.RefusalLaws.{Numbered}
 use Rattle.base.proofs.JudgeLaws.{stays, by-steps, zero-from}
 use Rattle.input.proofs.Limits.{length-iff}
-use Rattle.job.specs.Words.{runTest, wordsTests}
+use Rattle.job.specs.Words.{runLength, runTest, wordsTests}
 use borrow.Author.Needs.{needs}
 use Rattle.words.proofs.check_words.Statement.{statement}
 use Rattle.words.proofs.check_words.Tie as tie
 
-first : (c : tie.After-next) → c .next .result ≡ next accepted (test (not (eqb (length (c .before .before .before .args .words .now)) 12)) 12 0)
+first : (c : tie.After-next) → c .next .result ≡ next accepted (test (not (eqb (length (c .before .before .before .args .words .now)) runLength)) 12 0)
 first c = cc
 
 ok-requires : tie.Need-ok-requires
@@ -32,7 +32,7 @@ shared-slice-read-next : tie.Need-shared-slice-read-next
 unfolding Numbered Passes
 shared-slice-read-next c =
     let p = zero-from accepted (_ ∷ []) (omega arith) (ap (λ (u : Status). u .number) (sym (first (c .before .before .before))) ∙ c .before .if1 .left) in
-    omega (arith, length-iff (length (c .before .before .before .before .before .before .args .words .now)) 12 .0 (p .1 .0))
+    omega (arith, length-iff (length (c .before .before .before .before .before .before .args .words .now)) runLength .0 (p .1 .0))
 
 next-requires-2 : tie.Need-next-requires-2
 next-requires-2 c κs = search needs
