@@ -2,8 +2,9 @@
 // job goes on to the next phase, as the plain walk does.
 use base::Status;
 use job::JobRecord;
-use records::Answer;
+use job::TileState;
 use tiling::Tiling;
+use words::Answer;
 ghost use mathlib.Core.Path.{_≡_};
 ghost use mathlib.Core.Bool.{not, cond, _&&_};
 ghost use mathlib.Core.List.{[], _∷_};
@@ -11,24 +12,23 @@ ghost use Prim.Native.Nat.{_≤_, _<_};
 ghost use lib.Dec.{ltb, eqb};
 ghost use lib.ListN.{length, set};
 ghost use Rattle.base.specs.F64.{_+f_};
+ghost use Rattle.base.specs.Limits.{maxPixels, maxPasses};
 ghost use Rattle.base.specs.Refusal.{test, judge, next, judgeFrom};
 ghost use Rattle.input.specs.Input.{lengthTest};
 ghost use Rattle.tiling.specs.Tiling.{Limits, tiles, inPhase};
+ghost use Rattle.job.specs.declared.TileState.the-variants.{Waiting, Back};
+ghost use Rattle.job.specs.Record.{byteOf, inState};
+ghost use Rattle.job.specs.Boundary.{closeRun};
 ghost use Rattle.job.specs.Close.{firstOf, isMissing, closeTests, withDeltas, released, nextWith, closed, closeOf};
-
-// A tile that waits for a worker, and one that is back.
-const WAITING: u8 = 0;
-
-const BACK: u8 = 2;
 
 const LAST_PHASE: u64 = 3;
 
 // Whether a tile in this state is one of the phase that is not back.
 fn is_missing(t: Tiling, phase: usize, tile: usize, state: u8) -> bool
     requires { ⌜ Limits t ⌝ }
-    ensures { λ b. ⌜ b ≡ (inPhase t phase tile && not (ltb 1 state)) ⌝ }
+    ensures { λ b. ⌜ b ≡ (inPhase t phase tile && not (inState Back state)) ⌝ }
 {
-    tiling::is_in_phase(t, phase, tile) && state < BACK
+    tiling::is_in_phase(t, phase, tile) && !job::is_in(state, TileState::Back)
 }
 
 // The first tile of the phase that is not back, or the number of tiles.
@@ -130,10 +130,10 @@ fn add_deltas(t: Tiling, phase: usize, deltas: &[f64], error: f64) -> f64
 // The state of a tile once the phase is closed.
 fn released_state(t: Tiling, phase: usize, tile: usize, state: u8) -> u8
     requires { ⌜ Limits t ⌝ }
-    ensures { λ b. ⌜ b ≡ cond (inPhase t phase tile) 0 state ⌝ }
+    ensures { λ b. ⌜ b ≡ cond (inPhase t phase tile) (byteOf Waiting) state ⌝ }
 {
     if tiling::is_in_phase(t, phase, tile) {
-        return WAITING;
+        return job::state_byte(TileState::Waiting);
     }
     state
 }
@@ -152,34 +152,28 @@ fn release(t: Tiling, phase: usize, tile_states: &mut [u8])
 // The record of the next phase, with the error as far as reached.
 fn next_record(r: JobRecord, error: f64) -> JobRecord
     requires { ⌜ r .phase ≤ 3 ⌝ }
-    requires { ⌜ r .done ≤ 1000 ⌝ }
+    requires { ⌜ r .done ≤ maxPasses ⌝ }
     ensures { λ q. ⌜ q ≡ nextWith r error ⌝ }
 {
     let plan = r.plan;
+    let mut next = r;
+    next.error = error;
     if r.phase == LAST_PHASE {
         let done = r.done + 1;
-        return JobRecord {
-            plan,
-            done,
-            phase: 0,
-            accepted: 0,
-            error,
-            finished: r.accepted == 0 || plan.allowed <= done,
-        };
+        next.done = done;
+        next.phase = 0;
+        next.accepted = 0;
+        next.finished = r.accepted == 0 || plan.allowed <= done;
+        return next;
     }
-    JobRecord {
-        plan,
-        done: r.done,
-        phase: r.phase + 1,
-        accepted: r.accepted,
-        error,
-        finished: false,
-    }
+    next.phase = r.phase + 1;
+    next.finished = false;
+    next
 }
 
 // The moves of the pass stored after its last phase.
 fn store_count(r: JobRecord, accepted_per_pass: &mut [u32])
-    requires { ⌜ (r .done < length (now «accepted_per_pass»)) × (r .accepted ≤ 16777216) ⌝ }
+    requires { ⌜ (r .done < length (now «accepted_per_pass»)) × (r .accepted ≤ maxPixels) ⌝ }
     ensures { λ _. ⌜ now («accepted_per_pass» .exit) ≡ cond (eqb (r .phase) 3) (set (now («accepted_per_pass» .entry)) (r .done) (r .accepted)) (now («accepted_per_pass» .entry)) ⌝ }
 {
     if r.phase == LAST_PHASE {
@@ -188,7 +182,7 @@ fn store_count(r: JobRecord, accepted_per_pass: &mut [u32])
 }
 
 // Join the phase's deltas to the error and go on to the next phase.
-pub fn close(
+fn close(
     r: JobRecord,
     accepted_per_pass: &mut [u32],
     tile_states: &mut [u8],
@@ -209,4 +203,22 @@ pub fn close(
         status,
         record: next_record(r, error),
     }
+}
+
+// The same on the run that the record is for a C host.
+pub fn close_run(
+    record: &mut [u64],
+    accepted_per_pass: &mut [u32],
+    tile_states: &mut [u8],
+    deltas: &[f64],
+) -> Status
+    ensures { λ s. ⌜ closed s (now («record» .exit)) (now («accepted_per_pass» .exit)) (now («tile_states» .exit)) ≡ closeRun (now («record» .entry)) (now («accepted_per_pass» .entry)) (now («tile_states» .entry)) (now (deltas .entry)) ⌝ }
+{
+    let run = words::read(record);
+    let status = run.status;
+    if status.number != 0 {
+        return status;
+    }
+    let closed = close(run.record, accepted_per_pass, tile_states, deltas);
+    words::leave(record, closed)
 }

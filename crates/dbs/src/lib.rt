@@ -1,6 +1,6 @@
 // The C interface (include/dbs.h): the static library. Numbers pass as themselves, a slice as a pointer
-// and then its number of elements, answers as structs by value. The job record is a lent run of 12 numbers
-// here; inside it goes by value.
+// and then its number of elements, answers as structs by value. Each function hands on to the crate of its
+// call, whose contract it has.
 use base::Status;
 use eye::DbsParams;
 use perceived::Measured;
@@ -14,11 +14,13 @@ ghost use Rattle.refine.specs.Refine.{refinement, refineOf};
 ghost use Rattle.base.specs.Refusal.{status};
 ghost use Rattle.tile.specs.Tile.{state};
 ghost use Rattle.job.specs.Copy.{pixels};
-ghost use Rattle.job.specs.Open.{opening};
+ghost use Rattle.job.specs.Open.{opening, opened};
 ghost use Rattle.job.specs.Take.{taken};
 ghost use Rattle.job.specs.Work.{worked};
+ghost use Rattle.job.specs.PutBack.{putBack};
+ghost use Rattle.job.specs.Close.{closed};
 ghost use Rattle.job.specs.Words.{decode};
-ghost use Rattle.job.specs.Boundary.{openedRun, openRun, takeRun, workRun, putBackWith, putBackRun, closedWith, closeRun};
+ghost use Rattle.job.specs.Boundary.{openRun, takeRun, workRun, putBackRun, closeRun};
 
 // Refine the indices in place, by the plain walk over the whole image.
 #[no_mangle]
@@ -99,17 +101,14 @@ pub extern "C" fn dbs_open(
     deltas: &mut [f64],
     inks: &mut [f64],
 ) -> Status
-    ensures { λ s. ⌜ openedRun s (now («record» .exit)) (now (cpe .exit)) (now (cpp .exit)) (now («tile_states» .exit)) (now (deltas .exit)) (now (inks .exit)) ≡ openRun (now («record» .entry)) (opening (input width height (now (pixels .entry)) (now (palette .entry)) (now (indices .entry)) (now (pinned .entry)) (record { «viewing_distance_cm» = «viewing_distance_cm»; ppi = ppi })) «max_passes» (now (cpe .entry)) (now (cpp .entry)) (now («accepted_per_pass» .entry)) (now («tile_states» .entry)) (now (deltas .entry)) (now (inks .entry))) ⌝ }
+    ensures { λ s. ⌜ opened s (now («record» .exit)) (now (cpe .exit)) (now (cpp .exit)) (now («tile_states» .exit)) (now (deltas .exit)) (now (inks .exit)) ≡ openRun (now («record» .entry)) (opening (input width height (now (pixels .entry)) (now (palette .entry)) (now (indices .entry)) (now (pinned .entry)) (record { «viewing_distance_cm» = «viewing_distance_cm»; ppi = ppi })) «max_passes» (now (cpe .entry)) (now (cpp .entry)) (now («accepted_per_pass» .entry)) (now («tile_states» .entry)) (now (deltas .entry)) (now (inks .entry))) ⌝ }
 {
-    let run = records::check_run(record.len());
-    if run.number != 0 {
-        return run;
-    }
     let params = DbsParams {
         viewing_distance_cm,
         ppi,
     };
-    let answer = open::open(
+    open::open_run(
+        record,
         pixels,
         width,
         height,
@@ -124,12 +123,7 @@ pub extern "C" fn dbs_open(
         tile_states,
         deltas,
         inks,
-    );
-    let status = answer.status;
-    if status.number == 0 {
-        records::encode(record, answer.record);
-    }
-    status
+    )
 }
 
 // Copy a tile's region out and mark the tile out.
@@ -145,12 +139,15 @@ pub extern "C" fn dbs_take(
 ) -> Status
     ensures { λ s. ⌜ taken s (decode (now («record» .entry))) (now («tile_states» .exit)) (pixels (now («copy_cpe» .exit)) (now («copy_indices» .exit))) ≡ takeRun (now («record» .entry)) tile (pixels (now (cpe .entry)) (now (indices .entry))) (now («tile_states» .entry)) (pixels (now («copy_cpe» .entry)) (now («copy_indices» .entry))) ⌝ }
 {
-    let words = records::check_words(record);
-    if words.number != 0 {
-        return words;
-    }
-    let r = records::decode(record);
-    take::take(r, tile, indices, cpe, tile_states, copy_cpe, copy_indices)
+    take::take_run(
+        record,
+        tile,
+        indices,
+        cpe,
+        tile_states,
+        copy_cpe,
+        copy_indices,
+    )
 }
 
 // Refine a tile on its copy. Touches no job state.
@@ -166,12 +163,7 @@ pub extern "C" fn dbs_work(
 ) -> DbsWorked
     ensures { λ w. ⌜ worked (status (w .number) (w .place)) (state (now («copy_cpe» .exit)) (now («copy_indices» .exit)) (record { accepted = w .accepted; delta = w .delta })) ≡ workRun (now («record» .entry)) tile (now (pinned .entry)) (now (cpp .entry)) (pixels (now («copy_cpe» .entry)) (now («copy_indices» .entry))) (now (inks .entry)) ⌝ }
 {
-    let words = records::check_words(record);
-    if words.number != 0 {
-        return work::refused(words);
-    }
-    let r = records::decode(record);
-    work::work(r, tile, pinned, cpp, copy_cpe, copy_indices, inks)
+    work::work_run(record, tile, pinned, cpp, copy_cpe, copy_indices, inks)
 }
 
 // Write a copy back over its region, with the count and delta that dbs_work answered.
@@ -188,15 +180,10 @@ pub extern "C" fn dbs_put_back(
     accepted: u64,
     delta: f64,
 ) -> Status
-    ensures { λ s. ⌜ putBackWith s (now («record» .exit)) (pixels (now (cpe .exit)) (now (indices .exit))) (now («tile_states» .exit)) (now (deltas .exit)) ≡ putBackRun (now («record» .entry)) tile (pixels (now (cpe .entry)) (now (indices .entry))) (now («tile_states» .entry)) (now (deltas .entry)) (state (now («copy_cpe» .entry)) (now («copy_indices» .entry)) (record { accepted = accepted; delta = delta })) ⌝ }
+    ensures { λ s. ⌜ putBack s (now («record» .exit)) (pixels (now (cpe .exit)) (now (indices .exit))) (now («tile_states» .exit)) (now (deltas .exit)) ≡ putBackRun (now («record» .entry)) tile (pixels (now (cpe .entry)) (now (indices .entry))) (now («tile_states» .entry)) (now (deltas .entry)) (state (now («copy_cpe» .entry)) (now («copy_indices» .entry)) (record { accepted = accepted; delta = delta })) ⌝ }
 {
-    let words = records::check_words(record);
-    if words.number != 0 {
-        return words;
-    }
-    let r = records::decode(record);
-    let back = putback::put_back(
-        r,
+    putback::put_back_run(
+        record,
         tile,
         indices,
         cpe,
@@ -206,12 +193,7 @@ pub extern "C" fn dbs_put_back(
         copy_indices,
         accepted,
         delta,
-    );
-    let status = back.status;
-    if status.number == 0 {
-        records::rewrite(record, back.record);
-    }
-    status
+    )
 }
 
 // Close the phase: join its deltas to the error and go on to the next phase.
@@ -222,17 +204,7 @@ pub extern "C" fn dbs_close(
     tile_states: &mut [u8],
     deltas: &[f64],
 ) -> Status
-    ensures { λ s. ⌜ closedWith s (now («record» .exit)) (now («accepted_per_pass» .exit)) (now («tile_states» .exit)) ≡ closeRun (now («record» .entry)) (now («accepted_per_pass» .entry)) (now («tile_states» .entry)) (now (deltas .entry)) ⌝ }
+    ensures { λ s. ⌜ closed s (now («record» .exit)) (now («accepted_per_pass» .exit)) (now («tile_states» .exit)) ≡ closeRun (now («record» .entry)) (now («accepted_per_pass» .entry)) (now («tile_states» .entry)) (now (deltas .entry)) ⌝ }
 {
-    let words = records::check_words(record);
-    if words.number != 0 {
-        return words;
-    }
-    let r = records::decode(record);
-    let closed = close::close(r, accepted_per_pass, tile_states, deltas);
-    let status = closed.status;
-    if status.number == 0 {
-        records::rewrite(record, closed.record);
-    }
-    status
+    close::close_run(record, accepted_per_pass, tile_states, deltas)
 }

@@ -30,8 +30,8 @@ use Rattle.refine.specs.Refine.{Refinement, refineStatus, refineOf}
 use Rattle.perceived.specs.Perceived.{measureStatus, measureOf}
 use Rattle.job.specs.Record.{jobShared}
 use Rattle.job.specs.Words.{decode}
-use Rattle.job.specs.Open.{Opening}
-use Rattle.job.specs.Boundary.{OpenedRun, openRun}
+use Rattle.job.specs.Open.{Opening, Opened}
+use Rattle.job.specs.Boundary.{openRun}
 use Rattle.job.specs.Runs.{Call, Job, rec, start, after}
 use Rattle.job.specs.Claim.{workOn, Fair}
 
@@ -104,11 +104,11 @@ pub record MeasuredNumbers (I : Input) : Type 0 where
 -- ---- the job
 
 -- what an open leaves
-pub record OpenedNumbers (I : Input) (a : OpenedRun) : Type 0 where
+pub record OpenedNumbers (I : Input) (a : Opened (List ℕ)) : Type 0 where
   pub buffers : BufferNumbers I (a .cpe) (a .cpp) (a .inks)
   pub deltas : Numbers (a .deltas)
-  pub initial : Number (decode (a .words) .plan .initial)
-  pub error : Number (decode (a .words) .error)
+  pub initial : Number (decode (a .rec) .plan .initial)
+  pub error : Number (decode (a .rec) .error)
 
 -- what a work call, given a run, makes of the copy that tile t's last take gave, and the costs that it weighs
 pub record WorkNumbers (words : List ℕ) (O : Opening) (J : Job) (t : ℕ) (run : List ℕ) : Type 0 where

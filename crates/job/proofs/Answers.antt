@@ -3,8 +3,8 @@
 use Prim.Native.Nat.{ℕ}
 use native.Mathlib.Omega.{arith}
 use mathlib.Core.Path.{_≡_, refl, sym, ap, _∙_}
-use mathlib.Core.Logic.{_↔_, _≢_}
-use mathlib.Core.Bool.{Bool, true, false, cond}
+use mathlib.Core.Logic.{_↔_, Iff·trans}
+use mathlib.Core.Bool.{cond}
 use mathlib.Core.List.{List}
 use lib.Dec.{eqb}
 use lib.ListN.{set, replicate}
@@ -12,9 +12,9 @@ use lib.Ieee.{Float}
 use Rattle.base.specs.declared.Status.{Status}
 use Rattle.base.specs.F64.{f0}
 use Rattle.base.specs.Refusal.{Test, judge, accepted, Passes, isAccepted}
-use Rattle.base.proofs.RefusalLaws.{Numbered, accepted-of, passes-of}
-use Rattle.base.proofs.JudgeLaws.{passes-of-zero, judge-zero}
-use Rattle.base.proofs.AnswerLaws.{is-accepted, not-accepted}
+use Rattle.base.proofs.RefusalLaws.{Numbered}
+use Rattle.base.proofs.JudgeLaws.{passes-of-zero, judge-zero, accepted-iff}
+use Rattle.base.proofs.AnswerLaws.{Answers as Judged, answers as judged}
 use Rattle.tiling.specs.Tiling.{tiles}
 use Rattle.input.proofs.Validity.{open-numbered}
 use Rattle.prepare.specs.Prepare.{tilingOf, inksOf, cppOf, cpeOf}
@@ -28,41 +28,32 @@ use Rattle.job.specs.Work.{Worked, worked, copyTest, workTests, workOf}
 use Rattle.job.specs.PutBack.{PutBack, putBack, countTest, putBackTests, withProgress, putBackOf}
 use Rattle.job.specs.Close.{Closed, closed, closeTests, nextRecord, released, closeOf}
 
--- an answer that is new where its tests pass, and old otherwise
+-- an answer that is new where its tests pass, and old otherwise; and the same as code finds it, which has judged the tests and looks at the number
 pub record Answers {A : Type 0} (status : A → Status) (ts : List Test) (new old : Status → A) (given : A) : Type 0 where
+  pub by : Judged status (judge ts) (new accepted) old given
   pub accepts : (status given ≡ accepted) ↔ Passes ts
   pub leaves : status given ≡ accepted → given ≡ new accepted
-  pub keeps : status given ≢ accepted → given ≡ old (status given)
-  -- as code makes it, which has judged the tests and looks at the number
   pub passed : (s : Status) → s ≡ judge ts → s .number ≡ 0 → Passes ts
   pub made : (s : Status) → s ≡ judge ts → s .number ≡ 0 → new s ≡ given
   pub kept : (s : Status) → s ≡ judge ts → (s .number ≡ 0 → ⊥) → old s ≡ given
-  -- the number 0 comes with the place 0 only
-  pub zero : status given .number ≡ 0 → status given ≡ accepted
 
 answers : {A : Type 0} (status : A → Status) (ts : List Test) (new old : Status → A) → Numbered ts → ((s : Status) → status (new s) ≡ s) → ((s : Status) → status (old s) ≡ s) →
     Answers status ts new old (cond (isAccepted (judge ts)) (new (judge ts)) (old (judge ts)))
-answers {A} status ts new old numbered sy sn = record {
-  accepts = (λ e. passes-of ts numbered (sym is ∙ e), λ p. is ∙ accepted-of ts p);
-  leaves = λ e. rw (sym is ∙ e, is-accepted);
-  keeps = λ n. let other = not-accepted (judge ts) (λ e. n (is ∙ e)) in rw (other, sn (judge ts));
-  passed = λ s e z. passes-of-zero ts numbered (number s e ∙ z);
-  made = λ s e z. rw (e, judge-zero ts numbered (number s e ∙ z), is-accepted);
-  kept = λ s e f. let other = not-accepted (judge ts) (λ q. f (ap (λ (u : Status). u .number) (e ∙ q))) in rw (e, other);
-  zero = λ z. is ∙ judge-zero ts numbered (ap (λ (u : Status). u .number) (sym is) ∙ z);
-}
+answers status ts new old numbered sy sn =
+    let a = judged status old sn (judge ts) new (sy accepted) in
+    record {
+      by = a;
+      accepts = Iff·trans (λ e. sym (a .told) ∙ e, λ e. a .told ∙ e) (accepted-iff ts numbered);
+      leaves = λ e. a .leaves (sym (a .told) ∙ e);
+      passed = λ s e z. passes-of-zero ts numbered (number s e ∙ z);
+      made = λ s e z. let ok = judge-zero ts numbered (number s e ∙ z) in ap new (e ∙ ok) ∙ sym (a .leaves ok);
+      kept = λ s e f. ap old e ∙ sym (a .keeps (λ q. f (ap (λ (u : Status). u .number) (e ∙ q))));
+    }
   where
     number : (s : Status) → s ≡ judge ts → judge ts .number ≡ s .number
     number s e = ap (λ (u : Status). u .number) (sym e)
 
-    is : status (cond (isAccepted (judge ts)) (new (judge ts)) (old (judge ts))) ≡ judge ts
-    is = go (isAccepted (judge ts))
-      where
-        go : (b : Bool) → status (cond b (new (judge ts)) (old (judge ts))) ≡ judge ts
-        go true = sy (judge ts)
-        go false = sn (judge ts)
-
-pub open-answers : (O : Opening) → Answers (λ (a : Opened). a .status) (openTestsOf O)
+pub open-answers : (O : Opening) → Answers (λ (a : Opened JobRecord). a .status) (openTestsOf O)
     (λ s. record {
       status = s;
       rec = firstRecord O;
@@ -88,13 +79,13 @@ unfolding workOf workTests recordTests copyTest Numbered
 work-answers r t pinned cpp copy inks = answers _ _ _ _ (omega arith) (λ s. refl) (λ s. refl)
 
 pub putBack-answers : (r : JobRecord) (t : ℕ) (image : Pixels) (states : List ℕ) (deltas : List Float) (made : State) →
-    Answers (λ (a : PutBack). a .status) (putBackTests r t image states deltas made)
+    Answers (λ (a : PutBack JobRecord). a .status) (putBackTests r t image states deltas made)
     (λ s. putBack s (withProgress r (made .progress)) (writtenBack (r .plan .tiling) t image (pixels (made .cpe) (made .indices))) (set states t 2) (set deltas t (made .progress .delta)))
     (λ s. putBack s r image states deltas) (putBackOf r t image states deltas made)
 unfolding putBackOf putBackTests recordTests countTest copyTest Numbered
 putBack-answers r t image states deltas made = answers _ _ _ _ (omega arith) (λ s. refl) (λ s. refl)
 
-pub close-answers : (r : JobRecord) (counts states : List ℕ) (deltas : List Float) → Answers (λ (a : Closed). a .status) (closeTests r counts states deltas)
+pub close-answers : (r : JobRecord) (counts states : List ℕ) (deltas : List Float) → Answers (λ (a : Closed JobRecord). a .status) (closeTests r counts states deltas)
     (λ s. closed s (nextRecord r deltas) (cond (eqb (r .phase) 3) (set counts (r .done) (r .accepted)) counts) (released (r .plan .tiling) (r .phase) states))
     (λ s. closed s r counts states) (closeOf r counts states deltas)
 unfolding closeOf closeTests recordTests Numbered

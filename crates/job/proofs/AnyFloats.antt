@@ -23,7 +23,7 @@ use Rattle.job.specs.Copy.{Pixels, refinedCopy}
 use Rattle.job.specs.Work.{worked, workOf}
 use Rattle.job.specs.PutBack.{PutBack, putBackTests, withProgress, putBackOf}
 use Rattle.job.specs.Close.{Closed, closeTests, nextRecord, nextWith, closeOf}
-use Rattle.job.specs.Boundary.{onRun, workRun, wordsAfter, PutBackRun, putBackOver, putBackRun, ClosedRun, closedOver, closeRun}
+use Rattle.job.specs.Boundary.{onRun, workRun, wordsAfter, putBackOver, putBackRun, closedOver, closeRun}
 use Rattle.job.specs.AnyFloats.{WorkKeeps, WordStays, AnyFloats}
 use Rattle.job.proofs.Answers.{work-answers}
 use Rattle.job.proofs.Copies.{region-covers}
@@ -97,11 +97,11 @@ module _ (words : List ℕ) (s : Status) (r : JobRecord) where
 module _ (r : JobRecord) (t : ℕ) (image : Pixels) (states : List ℕ) (deltas : List Float) (made : State) where
   put-initial : putBackOf r t image states deltas made .rec .plan .initial ≡ r .plan .initial
   unfolding putBackOf withProgress
-  put-initial = either (λ (a : PutBack). a .rec .plan .initial) (isAccepted (judge (putBackTests r t image states deltas made))) _ _ _ refl refl
+  put-initial = either (λ (a : PutBack JobRecord). a .rec .plan .initial) (isAccepted (judge (putBackTests r t image states deltas made))) _ _ _ refl refl
 
   put-error : putBackOf r t image states deltas made .rec .error ≡ r .error
   unfolding putBackOf withProgress
-  put-error = either (λ (a : PutBack). a .rec .error) (isAccepted (judge (putBackTests r t image states deltas made))) _ _ _ refl refl
+  put-error = either (λ (a : PutBack JobRecord). a .rec .error) (isAccepted (judge (putBackTests r t image states deltas made))) _ _ _ refl refl
 
 next-initial : (r : JobRecord) (e : Float) → nextWith r e .plan .initial ≡ r .plan .initial
 unfolding nextWith
@@ -109,7 +109,7 @@ next-initial r e = either (λ (n : JobRecord). n .plan .initial) (eqb (r .phase)
 
 close-initial : (r : JobRecord) (counts states : List ℕ) (deltas : List Float) → closeOf r counts states deltas .rec .plan .initial ≡ r .plan .initial
 unfolding closeOf nextRecord
-close-initial r counts states deltas = either (λ (a : Closed). a .rec .plan .initial) (isAccepted (judge (closeTests r counts states deltas))) _ _ _ (next-initial r _) refl
+close-initial r counts states deltas = either (λ (a : Closed JobRecord). a .rec .plan .initial) (isAccepted (judge (closeTests r counts states deltas))) _ _ _ (next-initial r _) refl
 
 words-stay : WordStays
 unfolding putBackRun closeRun onRun putBackOver closedOver
@@ -118,13 +118,13 @@ words-stay = record {
       let r = decode words in
       let a = putBackOf r t image states deltas made in
       let s = judge (wordsTests words) in (
-        either (λ (a : PutBackRun). getD (a .words) 9 0) (isAccepted s) _ _ _ (initial-stays words (a .status) (a .rec) (put-initial r t image states deltas made) h) refl,
-        either (λ (a : PutBackRun). getD (a .words) 10 0) (isAccepted s) _ _ _ (error-stays words (a .status) (a .rec) (put-error r t image states deltas made) e) refl,
+        either (λ (a : PutBack (List ℕ)). getD (a .rec) 9 0) (isAccepted s) _ _ _ (initial-stays words (a .status) (a .rec) (put-initial r t image states deltas made) h) refl,
+        either (λ (a : PutBack (List ℕ)). getD (a .rec) 10 0) (isAccepted s) _ _ _ (error-stays words (a .status) (a .rec) (put-error r t image states deltas made) e) refl,
       );
   closes = λ words counts states deltas h.
       let a = closeOf (decode words) counts states deltas in
       let s = judge (wordsTests words) in
-      either (λ (a : ClosedRun). getD (a .words) 9 0) (isAccepted s) _ _ _ (initial-stays words (a .status) (a .rec) (close-initial (decode words) counts states deltas) h) refl;
+      either (λ (a : Closed (List ℕ)). getD (a .rec) 9 0) (isAccepted s) _ _ _ (initial-stays words (a .status) (a .rec) (close-initial (decode words) counts states deltas) h) refl;
 }
 
 pub any-floats : AnyFloats

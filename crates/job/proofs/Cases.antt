@@ -21,7 +21,7 @@ use Rattle.tile.specs.Tile.{applied, visitOf, refineRow, refineTile}
 use Rattle.input.specs.Input.{pixelCount, inkCount, firstUnnamed, imageTests, inkTests, inputTests, runTests, openRunTests, openTests}
 use Rattle.error.specs.Error.{channelError, initialError}
 use Rattle.prepare.specs.Prepare.{tilingOf, errorOf}
-use Rattle.job.specs.Record.{pixelsOf, jobShared, radiusFits, recordTests, isDue, isWaiting, isOut, isBack}
+use Rattle.job.specs.Record.{pixelsOf, jobShared, radiusFits, recordTests, isDue, stateOf, inState}
 use Rattle.job.specs.Words.{runTest, wordsTests, decode, wordsWith, encode, wordOver, rewritten}
 use Rattle.job.specs.Copy.{pixels, copyOf, refinedCopy, writtenBack}
 use Rattle.job.specs.Open.{Opening, openTestsOf, firstRecord, openOf}
@@ -29,7 +29,7 @@ use Rattle.job.specs.Take.{takeTests, takeOf}
 use Rattle.job.specs.Work.{Worked, copyTest, workTests, workOf}
 use Rattle.job.specs.PutBack.{countTest, putBackTests, withProgress, putBackOf}
 use Rattle.job.specs.Close.{firstOf, isMissing, closeTests, withDeltas, released, nextRecord, nextWith, closeOf}
-use Rattle.job.specs.Boundary.{openRun, onRun, takeRun, workRun, wordsAfter, putBackOver, putBackRun, closedOver, closeRun}
+use Rattle.job.specs.Boundary.{openRun, openedOver, wordsOpened, onRun, takeRun, workRun, wordsAfter, putBackOver, putBackRun, closedOver, closeRun}
 use Rattle.job.specs.Runs.{own, take, putBack, close, Job, rec, start, ran, after}
 
 -- an image of 1 x 0 pixels and one ink, seen at 127 ppi from 40 cm
@@ -63,7 +63,7 @@ closed J = after J (close own own own)
 
 no-rows : let J = closed (closed (closed (closed (start (replicate 12 5) (flat 2 (7 ∷ 7 ∷ [])))))) in
     (rec J .done ≡ 1) × (rec J .phase ≡ 0) × (rec J .finished ≡ true) × (J .counts ≡ 0 ∷ 7 ∷ []) × (rec J .error ≡ f0)
-unfolding flat closed start ran openRun onRun closeRun closedOver wordsAfter wordsTests runTest decode encode rewritten wordsWith wordOver closeOf closeTests recordTests radiusFits pixelsOf firstOf isMissing nextRecord nextWith withDeltas released openOf openTestsOf firstRecord isAccepted judge openTests openRunTests runTests inputTests imageTests inkTests eyeTests firstUnnamed pixelCount inkCount tilingOf kernelRadius blurRadius ceil sigmaPx toDegrees isFinitePositive tiles rows columns side margin errorOf initialError channelError upTo table add mul div lt ofBits ofInt toBits isNan nanBits
+unfolding flat closed start ran openRun openedOver wordsOpened onRun closeRun closedOver wordsAfter wordsTests runTest decode encode rewritten wordsWith wordOver closeOf closeTests recordTests radiusFits pixelsOf firstOf isMissing nextRecord nextWith withDeltas released openOf openTestsOf firstRecord isAccepted judge openTests openRunTests runTests inputTests imageTests inkTests eyeTests firstUnnamed pixelCount inkCount tilingOf kernelRadius blurRadius ceil sigmaPx toDegrees isFinitePositive tiles rows columns side margin errorOf initialError channelError upTo table add mul div lt ofBits ofInt toBits isNan nanBits
 no-rows = (refl, refl, refl, refl, refl)
 
 -- ---- a job on two pixels: hand kernel H (1.0 at the centre, else 0), ink values (0, 0, 0) and (1, 0, 0), indices 1 0, targets 0 1
@@ -104,5 +104,5 @@ backOne = after tookOne (putBack 0 own own own own (workedOne .made))
 -- 'H, indices 1 0, targets 0 1: swap, −2', shared and closed
 one-swap : let J = closed (closed (closed (closed backOne))) in
     (workedOne .made .progress ≡ record { accepted = 1; delta = neg f2 }) × (J .image .indices ≡ 0 ∷ 1 ∷ []) × (J .counts ≡ 1 ∷ 7 ∷ 7 ∷ []) × (rec J .done ≡ 1) × (rec J .error ≡ f0) × (rec J .finished ≡ false)
-unfolding two tookOne workedOne backOne handKernels twoInks closed ran takeRun workRun putBackRun putBackOver closeRun closedOver onRun wordsAfter wordsTests runTest decode encode rewritten wordsWith wordOver toBits isNan nanBits takeOf takeTests copyOf isDue isWaiting workOf workTests copyTest jobShared refinedCopy putBackOf putBackTests countTest withProgress writtenBack isOut isBack closeOf closeTests recordTests radiusFits pixelsOf firstOf isMissing nextRecord nextWith withDeltas released isAccepted judge firstUnnamed image tile region tileX tileY inPhase tiles rows columns side margin crop paste cell put place columnAt rowAt valueAt inside area width height refineTile refineRow visitOf applied evaluateOf swaps trySwap partnerOf toggles tryToggle centres centreOf gaps besideOf toggleCost swapCost kernelAt pinnedAt movedIndices movedCpe addKernels sweepOf sweepRow sweepPixel addAt grow fromTo upTo table add sub mul div neg lt ofBits
+unfolding two tookOne workedOne backOne handKernels twoInks closed ran takeRun workRun putBackRun putBackOver closeRun closedOver onRun wordsAfter wordsTests runTest decode encode rewritten wordsWith wordOver toBits isNan nanBits takeOf takeTests copyOf isDue inState workOf workTests copyTest jobShared refinedCopy putBackOf putBackTests countTest withProgress writtenBack stateOf closeOf closeTests recordTests radiusFits pixelsOf firstOf isMissing nextRecord nextWith withDeltas released isAccepted judge firstUnnamed image tile region tileX tileY inPhase tiles rows columns side margin crop paste cell put place columnAt rowAt valueAt inside area width height refineTile refineRow visitOf applied evaluateOf swaps trySwap partnerOf toggles tryToggle centres centreOf gaps besideOf toggleCost swapCost kernelAt pinnedAt movedIndices movedCpe addKernels sweepOf sweepRow sweepPixel addAt grow fromTo upTo table add sub mul div neg lt ofBits
 one-swap = (refl, refl, refl, refl, refl, refl)

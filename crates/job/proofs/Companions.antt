@@ -18,13 +18,14 @@ use Rattle.walk.specs.Walk.{Refined, Walk, walkTile, walkTry, walkTiles, walkPh
 use Rattle.walk.proofs.Passes.{walkAt-add, walkAt-ended}
 use Rattle.refine.specs.Refine.{refineAccepted, refineOf}
 use Rattle.refine.proofs.Promises.{run-ends}
-use Rattle.job.specs.Record.{stored, pixelsOf, recordTests, isBack}
+use Rattle.job.specs.Record.{stored, pixelsOf, recordTests}
 use Rattle.job.specs.Open.{Opening}
 use Rattle.job.specs.Boundary.{openRun}
 use Rattle.job.specs.Close.{isMissing}
 use Rattle.job.specs.Runs.{Call, Job, rec, start, after, closesAfter}
 use Rattle.job.specs.Claim.{Fair, phases}
 use Rattle.job.specs.Companions.{afterAll, Reached, isToCome, CountsFit, Ends, AsRefined, RoundTrip}
+use Rattle.job.proofs.StateLaws.{isBack}
 use Rattle.job.proofs.Merge.{Half, pixelsNow, halfNow}
 use Rattle.job.proofs.Opened.{opens, valid}
 use Rattle.job.proofs.Phase.{Stage, isHome}

@@ -12,10 +12,10 @@ use lib.Ieee.{Float}
 use Rattle.base.specs.declared.Status.{Status}
 use Rattle.base.specs.Refusal.{Test, judge, accepted, isAccepted, Passes}
 use Rattle.base.specs.Rows.{Row, Judged}
-use Rattle.base.proofs.RefusalLaws.{Numbered, accepted-of}
+use Rattle.base.proofs.RefusalLaws.{Numbered}
 use Rattle.base.proofs.JudgeLaws.{passes-append}
 use Rattle.base.proofs.RowLaws.{Decides}
-use Rattle.base.proofs.AnswerLaws.{is-accepted, not-accepted, Answers, answered, then-answers, through, judged}
+use Rattle.base.proofs.AnswerLaws.{is-accepted, not-accepted, Answers, then-answers, through, judged}
 use Rattle.input.proofs.Limits.{length-iff}
 use Rattle.input.proofs.Validity.{open-numbered, open-passes}
 use Rattle.refine.proofs.Promises.{refine-judged, run-ends}
@@ -23,26 +23,18 @@ use Rattle.perceived.proofs.Laws.{measure-judged}
 use Rattle.tile.specs.Tile.{State}
 use Rattle.job.specs.declared.JobRecord.{JobRecord}
 use Rattle.job.specs.Record.{recordTests}
-use Rattle.job.specs.Words.{runTest, wordsTests, decode, encode}
+use Rattle.job.specs.Words.{runLength, runTest, wordsTests, decode, encode}
 use Rattle.job.specs.Copy.{Pixels}
-use Rattle.job.specs.Open.{Opening, Opened, openTestsOf}
+use Rattle.job.specs.Open.{Opening, openTestsOf}
 use Rattle.job.specs.Take.{takeTests, takeOf}
 use Rattle.job.specs.Work.{copyTest, workTests, workOf}
 use Rattle.job.specs.PutBack.{countTest, putBackTests, putBackOf}
 use Rattle.job.specs.Close.{closeTests, closeOf}
-use Rattle.job.specs.Boundary.{OpenedRun, openedRun, openRun, onRun, takeRun, workRun, wordsAfter, putBackOver, putBackRun, closedOver, closeRun}
+use Rattle.job.specs.Boundary.{openedOver, wordsOpened, openRun, onRun, takeRun, workRun, wordsAfter, putBackOver, putBackRun, closedOver, closeRun}
 use Rattle.job.specs.Demand1.{ValidRun, OpenJudged, TakeJudged, WorkJudged, PutBackJudged, CloseJudged, Demand1}
 use Rattle.job.proofs.Validity.{take-passes, work-passes, putBack-passes, close-passes}
-use Rattle.job.proofs.Answers.{Answers as CallAnswers, open-answers, take-answers, work-answers, putBack-answers, close-answers}
+use Rattle.job.proofs.Answers.{open-answers, take-answers, work-answers, putBack-answers, close-answers}
 use Rattle.job.proofs.RowsOf.{open-decides, take-decides, work-decides, putBack-decides, close-decides}
-
--- what Answers.antt says of a call, by its judgement
-by-judgement : {A : Type 0} {status : A → Status} {ts : List Test} {new old : Status → A} {given : A} → CallAnswers status ts new old given → status (new accepted) ≡ accepted →
-    ((s : Status) → status (old s) ≡ s) → Answers status (judge ts) (new accepted) old given
-by-judgement {status = status} {ts = ts} {new = new} {old = old} {given = given} a new-status old-status =
-    answered status old old-status (judge ts) new-status
-    (λ e. sym (a .made (judge ts) refl (ap (λ (s : Status). s .number) e)) ∙ ap new e)
-    (λ n. sym (a .kept (judge ts) refl (λ z. n (accepted-of ts (a .passed (judge ts) refl z)))))
 
 -- ---- a call that reads its record from a run
 
@@ -53,8 +45,8 @@ words-numbered words = omega arith
 words-passes : (words : List ℕ) → Passes (wordsTests words) ↔ ValidRun words
 unfolding wordsTests runTest Passes
 words-passes words = (
-  λ p. record { twelve = length-iff _ _ .0 (p .0); flag = ltb-false _ _ (p .1 .0) },
-  λ v. (length-iff _ _ .1 (v .twelve), (le-ltb _ _ (v .flag), tt)),
+  λ p. record { whole = length-iff _ _ .0 (p .0); flag = ltb-false _ _ (p .1 .0) },
+  λ v. (length-iff _ _ .1 (v .whole), (le-ltb _ _ (v .flag), tt)),
 )
 
 module _ {A : Type 0} (words : List ℕ) (us : List Test) (status : A → Status) (kept : Status → A) (call : JobRecord → A) (kept-status : (s : Status) → status (kept s) ≡ s) where
@@ -73,7 +65,7 @@ module _ (words : List ℕ) (t : ℕ) (image : Pixels) (states : List ℕ) (copy
   unfolding takeRun takeTests recordTests Numbered
   take-judged =
       let r = decode words in
-      on-run-judged words (takeTests r t image states copy) _ _ (λ r. takeOf r t image states copy) (λ s. refl) (by-judgement (take-answers r t image states copy) refl (λ s. refl))
+      on-run-judged words (takeTests r t image states copy) _ _ (λ r. takeOf r t image states copy) (λ s. refl) (take-answers r t image states copy .by)
       (omega arith) (take-passes r t image states copy) (take-decides words t image states copy)
 
 module _ (words : List ℕ) (t : ℕ) (pinned : List ℕ) (cpp : List Float) (copy : Pixels) (inks : List Float) where
@@ -81,7 +73,7 @@ module _ (words : List ℕ) (t : ℕ) (pinned : List ℕ) (cpp : List Float) (co
   unfolding workRun workTests recordTests copyTest Numbered
   work-judged =
       let r = decode words in
-      on-run-judged words (workTests r t pinned cpp copy inks) _ _ (λ r. workOf r t pinned cpp copy inks) (λ s. refl) (by-judgement (work-answers r t pinned cpp copy inks) refl (λ s. refl))
+      on-run-judged words (workTests r t pinned cpp copy inks) _ _ (λ r. workOf r t pinned cpp copy inks) (λ s. refl) (work-answers r t pinned cpp copy inks .by)
       (omega arith) (work-passes r t pinned cpp copy inks) (work-decides words t pinned cpp copy inks)
 
 -- the run after a refusal
@@ -95,7 +87,7 @@ module _ (words : List ℕ) (t : ℕ) (image : Pixels) (states : List ℕ) (delt
   putBack-judged =
       let r = decode words in
       on-run-judged words (putBackTests r t image states deltas made) _ _ (λ r. putBackOver words (putBackOf r t image states deltas made)) (λ s. refl)
-      (through (by-judgement (putBack-answers r t image states deltas made) refl (λ s. refl)) _ _ (putBackOver words) (λ a. refl) (λ f. rw (run-stays words _ r f)))
+      (through (putBack-answers r t image states deltas made .by) _ _ (putBackOver words) (λ a. refl) (λ f. rw (run-stays words _ r f)))
       (omega arith) (putBack-passes r t image states deltas made) (putBack-decides words t image states deltas made)
 
 module _ (words counts states : List ℕ) (deltas : List Float) where
@@ -104,7 +96,7 @@ module _ (words counts states : List ℕ) (deltas : List Float) where
   close-judged =
       let r = decode words in
       on-run-judged words (closeTests r counts states deltas) _ _ (λ r. closedOver words (closeOf r counts states deltas)) (λ s. refl)
-      (through (by-judgement (close-answers r counts states deltas) refl (λ s. refl)) _ _ (closedOver words) (λ a. refl) (λ f. rw (run-stays words _ r f)))
+      (through (close-answers r counts states deltas .by) _ _ (closedOver words) (λ a. refl) (λ f. rw (run-stays words _ r f)))
       (omega arith) (close-passes r counts states deltas) (close-decides words counts states deltas)
 
 -- open only writes the run
@@ -113,17 +105,16 @@ module _ (words : List ℕ) (O : Opening) where
   unfolding runTest Numbered
   run-numbered = omega arith
 
-  run-passes : Passes (runTest words ∷ []) ↔ (length words ≡ 12)
+  run-passes : Passes (runTest words ∷ []) ↔ (length words ≡ runLength)
   unfolding runTest Passes
   run-passes = (λ p. length-iff _ _ .0 (p .0), λ e. (length-iff _ _ .1 e, tt))
 
   open-judged : OpenJudged words O
-  unfolding openRun openTestsOf Numbered
+  unfolding openRun openedOver wordsOpened openTestsOf Numbered
   open-judged =
-      let over : Opened → OpenedRun = λ a. openedRun (a .status) (cond (isAccepted (a .status)) (encode (a .rec)) words) (a .cpe) (a .cpp) (a .states) (a .deltas) (a .inks) in
       judged
       (then-answers _ _ (λ s. refl) (runTest words ∷ []) (openTestsOf O) run-numbered (λ e. rw (e, is-accepted)) (λ f. rw (not-accepted (judge (runTest words ∷ [])) f))
-      (through (by-judgement (open-answers O) refl (λ s. refl)) _ _ over (λ a. refl) (λ f. rw (not-accepted _ f))))
+      (through (open-answers O .by) _ _ (openedOver words) (λ a. refl) (λ f. rw (not-accepted _ f))))
       (run-numbered .0, open-numbered (O .input) (O .passes) _ _ _ _ _ _ _)
       (Iff·trans (passes-append (runTest words ∷ []) (openTestsOf O)) (Iff·and run-passes (open-passes (O .input) (O .passes) _ _ _ _ _ _ _))) (open-decides words O)
 

@@ -41,9 +41,9 @@ use Rattle.job.specs.Copy.{Pixels, pixels, refinedCopy}
 use Rattle.job.specs.Open.{Opening, firstRecord}
 use Rattle.job.specs.Take.{Taken, takeOf}
 use Rattle.job.specs.Work.{Worked}
-use Rattle.job.specs.PutBack.{withProgress, putBackOf}
-use Rattle.job.specs.Close.{nextRecord, closeOf}
-use Rattle.job.specs.Boundary.{openRun, wordsAfter, PutBackRun, putBackOver, ClosedRun, closedOver}
+use Rattle.job.specs.PutBack.{PutBack, withProgress, putBackOf}
+use Rattle.job.specs.Close.{Closed, nextRecord, closeOf}
+use Rattle.job.specs.Boundary.{openRun, wordsAfter, putBackOver, closedOver}
 use Rattle.job.specs.Runs.{Lent, own, other, given, left, Call, take as takeCall, putBack, close, Job, rec, start, lentImage, ran, answer, after, isClose, closesAfter}
 use Rattle.job.specs.Claim.{Own, workOn, WorkMade, Brings, Fair, Same, SameJob, Safe, EveryPhase, EveryCall, phases, Along, Demand3}
 use Rattle.job.specs.Companions.{Doubles}
@@ -75,10 +75,10 @@ refused-after J (takeCall t indices cpe states copy) n =
 refused-after J (putBack t indices cpe states deltas made) n =
     let k = demand1 .puts (J .words) t (lentImage J indices cpe) (given (J .states) states) (given (J .deltas) deltas) made .keeps n in
     rw (
-      ap (λ (a : PutBackRun). a .words) k,
-      ap (λ (a : PutBackRun). a .image) k,
-      ap (λ (a : PutBackRun). a .states) k,
-      ap (λ (a : PutBackRun). a .deltas) k,
+      ap (λ (a : PutBack (List ℕ)). a .rec) k,
+      ap (λ (a : PutBack (List ℕ)). a .image) k,
+      ap (λ (a : PutBack (List ℕ)). a .states) k,
+      ap (λ (a : PutBack (List ℕ)). a .deltas) k,
       untouched (J .image .cpe) cpe,
       untouched (J .image .indices) indices,
       untouched (J .states) states,
@@ -86,7 +86,7 @@ refused-after J (putBack t indices cpe states deltas made) n =
     )
 refused-after J (close counts states deltas) n =
     let k = demand1 .closes (J .words) (given (J .counts) counts) (given (J .states) states) (given (J .deltas) deltas) .keeps n in
-    rw (ap (λ (a : ClosedRun). a .words) k, ap (λ (a : ClosedRun). a .counts) k, ap (λ (a : ClosedRun). a .states) k, untouched (J .counts) counts, untouched (J .states) states)
+    rw (ap (λ (a : Closed (List ℕ)). a .rec) k, ap (λ (a : Closed (List ℕ)). a .counts) k, ap (λ (a : Closed (List ℕ)). a .states) k, untouched (J .counts) counts, untouched (J .states) states)
 
 -- every call leaves its run among those seen
 seen-more : (J : Job) (c : Call) → after J c .seen ≡ after J c .words ∷ J .seen
@@ -106,11 +106,11 @@ flag false = omega arith
 
 pub encoded-stands : (r : JobRecord) → ValidRun (encode r)
 unfolding encode wordsWith
-encoded-stands r = record { twelve = refl; flag = flag (r .finished) }
+encoded-stands r = record { whole = refl; flag = flag (r .finished) }
 
 rewritten-stands : (words : List ℕ) (r : JobRecord) → ValidRun (rewritten words r)
 unfolding rewritten wordsWith
-rewritten-stands words r = record { twelve = refl; flag = flag (r .finished) }
+rewritten-stands words r = record { whole = refl; flag = flag (r .finished) }
 
 -- a take on the job's own buffers; the room for the copy is the worker's
 abbrev pub taking : ℕ → Pixels → Call
@@ -153,7 +153,7 @@ module _ (J : Job) (s : ValidRun (J .words)) where
   module _ (t : ℕ) (made : State) where
     pub put-status : answer J (putting t made) ≡ putBackOf (rec J) t (J .image) (J .states) (J .deltas) made .status
     unfolding ran putBackOver
-    put-status = ap (λ (a : PutBackRun). a .status) (put-on (J .words) s t (J .image) (J .states) (J .deltas) made)
+    put-status = ap (λ (a : PutBack (List ℕ)). a .status) (put-on (J .words) s t (J .image) (J .states) (J .deltas) made)
 
     module _ (e : answer J (putting t made) ≡ accepted) where
       put-words : after J (putting t made) .words ≡ wordsAfter (J .words) accepted (withProgress (rec J) (made .progress))
@@ -174,7 +174,7 @@ module _ (J : Job) (s : ValidRun (J .words)) where
 
   pub close-status : answer J closing ≡ closeOf (rec J) (J .counts) (J .states) (J .deltas) .status
   unfolding ran closedOver
-  close-status = ap (λ (a : ClosedRun). a .status) (close-on (J .words) s (J .counts) (J .states) (J .deltas))
+  close-status = ap (λ (a : Closed (List ℕ)). a .status) (close-on (J .words) s (J .counts) (J .states) (J .deltas))
 
   module _ (e : answer J closing ≡ accepted) where
     close-words : after J closing .words ≡ wordsAfter (J .words) accepted (nextRecord (rec J) (J .deltas))

@@ -26,15 +26,15 @@ use Rattle.tile.specs.Tile.{State, applied, visitOf, refineRow, refineTile}
 use Rattle.error.specs.Error.{halftoneAt, colourAt, targetAt, errorAt, correlateTerm, correlateRow, correlateAt, channelKernel, fieldAt, fieldValue, fieldOf, errorTerm, channelError, initialError}
 use Rattle.input.specs.Input.{pixelCount, inkCount, firstUnnamed, imageTests, inkTests, inputTests, runTests, openRunTests, openTests}
 use Rattle.prepare.specs.Prepare.{tilingOf, inksOf, cppOf, sceneOf, cpeOf, errorOf}
-use Rattle.job.specs.Record.{pixelsOf, jobShared, radiusFits, recordTests, isDue, isWaiting, isOut, isBack}
+use Rattle.job.specs.Record.{pixelsOf, jobShared, radiusFits, recordTests, isDue, stateOf, inState}
 use Rattle.job.specs.Words.{runTest, wordsTests, decode, wordsWith, encode, wordOver, rewritten}
 use Rattle.job.specs.Copy.{Pixels, pixels, copyOf, refinedCopy, writtenBack}
-use Rattle.job.specs.Open.{Opening, openTestsOf, firstRecord, openOf}
+use Rattle.job.specs.Open.{Opened, Opening, openTestsOf, firstRecord, openOf}
 use Rattle.job.specs.Take.{Taken, takeTests, takeOf}
 use Rattle.job.specs.Work.{copyTest, workTests, workOf}
 use Rattle.job.specs.PutBack.{countTest, putBackTests, withProgress, putBackOf}
 use Rattle.job.specs.Close.{firstOf, isMissing, closeTests, withDeltas, released, nextRecord, nextWith, closeOf}
-use Rattle.job.specs.Boundary.{OpenedRun, openRun, onRun, takeRun, workRun, wordsAfter, putBackOver, putBackRun, closedOver, closeRun}
+use Rattle.job.specs.Boundary.{openRun, openedOver, wordsOpened, onRun, takeRun, workRun, wordsAfter, putBackOver, putBackRun, closedOver, closeRun}
 
 -- ---- the calls on what a host holds of a job
 
@@ -59,12 +59,12 @@ made pinned cpp inks t n h = workRun (h .words) t pinned cpp (taken t n h .copy)
 bringBack : ℕ → State → Host → Host
 bringBack t s h =
     let b = putBackRun (h .words) t (h .image) (h .states) (h .deltas) s in
-    record { words = b .words; image = b .image; counts = h .counts; states = b .states; deltas = b .deltas }
+    record { words = b .rec; image = b .image; counts = h .counts; states = b .states; deltas = b .deltas }
 
 closed : Host → Host
 closed h =
     let c = closeRun (h .words) (h .counts) (h .states) (h .deltas) in
-    record { words = c .words; image = h .image; counts = c .counts; states = c .states; deltas = h .deltas }
+    record { words = c .rec; image = h .image; counts = c .counts; states = c .states; deltas = h .deltas }
 
 -- ---- document 01's program `plate`: 'pixels 0 0 0 255 255 255, width 2, palette black then white, indices 1 0, ppi 127, 40 cm, 10 passes'
 
@@ -88,11 +88,11 @@ twoPixels = record {
   inks = replicate 6 nan;
 }
 
-opened : OpenedRun
+opened : Opened (List ℕ)
 opened = openRun (replicate 12 7) twoPixels
 
 start : Host
-start = record { words = opened .words; image = pixels (opened .cpe) (twoPixels .input .indices); counts = twoPixels .counts; states = opened .states; deltas = opened .deltas }
+start = record { words = opened .rec; image = pixels (opened .cpe) (twoPixels .input .indices); counts = twoPixels .counts; states = opened .states; deltas = opened .deltas }
 
 -- a pass: tile 0 taken, refined on its copy of two pixels and put back; phases 1 to 3 have no tile
 aPass : Host → Host
@@ -135,15 +135,15 @@ unfolding twoPixels first tilingOf errorOf initialError channelError errorTerm s
 error-is = rw cpe-is
 
 opens : start ≡ first
-unfolding twoPixels opened start first openRun runTest openOf openTestsOf firstRecord encode wordsWith isAccepted judge openTests openRunTests runTests inputTests imageTests inkTests eyeTests firstUnnamed pixelCount inkCount tilingOf kernelRadius blurRadius ceil sigmaPx toDegrees isFinitePositive tiles rows columns side margin add mul div lt round ofBits ofInt toBits
+unfolding twoPixels opened start first openRun openedOver wordsOpened runTest openOf openTestsOf firstRecord encode wordsWith isAccepted judge openTests openRunTests runTests inputTests imageTests inkTests eyeTests firstUnnamed pixelCount inkCount tilingOf kernelRadius blurRadius ceil sigmaPx toDegrees isFinitePositive tiles rows columns side margin add mul div lt round ofBits ofInt toBits
 opens = rw (cpe-is, error-is)
 
 pass-one : aPass first ≡ second
-unfolding twoPixels opened taken takeOut made bringBack closed aPass first second openRun runTest openOf openTestsOf firstRecord encode wordsWith isAccepted judge openTests openRunTests runTests inputTests imageTests inkTests eyeTests firstUnnamed pixelCount inkCount tilingOf kernelRadius blurRadius ceil sigmaPx toDegrees isFinitePositive tiles rows columns side margin cpeOf cppOf sceneOf inksOf inkValues inkValue ink channel errorOf initialError channelError errorTerm fieldOf fieldValue fieldAt channelKernel correlateAt correlateRow correlateTerm errorAt targetAt colourAt halftoneAt yycxcz linear srgbToLinear pinnedAt kernelAt eyeKernels overwrite kernelOf autocorrelation correlationAt rowSum gaussianBlur blurOf blurAt sumOf gaussianLine gaussianAt expOf squared series upTo fromTo table add sub mul div neg lt round ofBits ofInt toBits takeRun takeOf takeTests copyOf isDue isWaiting workRun workOf workTests copyTest jobShared refinedCopy putBackRun putBackOf putBackTests countTest withProgress writtenBack isOut isBack closeRun closeOf closeTests wordsTests wordsAfter rewritten wordOver decode recordTests radiusFits pixelsOf firstOf isMissing nextRecord nextWith withDeltas released image tile region tileX tileY inPhase crop paste cell put place columnAt rowAt valueAt inside area width height refineTile refineRow visitOf applied evaluateOf swaps trySwap partnerOf toggles tryToggle centres centreOf gaps besideOf toggleCost swapCost movedIndices movedCpe addKernels sweepOf sweepRow sweepPixel addAt grow isNan nanBits onRun putBackOver closedOver
+unfolding twoPixels opened taken takeOut made bringBack closed aPass first second openRun openedOver wordsOpened runTest openOf openTestsOf firstRecord encode wordsWith isAccepted judge openTests openRunTests runTests inputTests imageTests inkTests eyeTests firstUnnamed pixelCount inkCount tilingOf kernelRadius blurRadius ceil sigmaPx toDegrees isFinitePositive tiles rows columns side margin cpeOf cppOf sceneOf inksOf inkValues inkValue ink channel errorOf initialError channelError errorTerm fieldOf fieldValue fieldAt channelKernel correlateAt correlateRow correlateTerm errorAt targetAt colourAt halftoneAt yycxcz linear srgbToLinear pinnedAt kernelAt eyeKernels overwrite kernelOf autocorrelation correlationAt rowSum gaussianBlur blurOf blurAt sumOf gaussianLine gaussianAt expOf squared series upTo fromTo table add sub mul div neg lt round ofBits ofInt toBits takeRun takeOf takeTests copyOf isDue inState workRun workOf workTests copyTest jobShared refinedCopy putBackRun putBackOf putBackTests countTest withProgress writtenBack stateOf closeRun closeOf closeTests wordsTests wordsAfter rewritten wordOver decode recordTests radiusFits pixelsOf firstOf isMissing nextRecord nextWith withDeltas released image tile region tileX tileY inPhase crop paste cell put place columnAt rowAt valueAt inside area width height refineTile refineRow visitOf applied evaluateOf swaps trySwap partnerOf toggles tryToggle centres centreOf gaps besideOf toggleCost swapCost movedIndices movedCpe addKernels sweepOf sweepRow sweepPixel addAt grow isNan nanBits onRun putBackOver closedOver
 pass-one = refl
 
 pass-two : aPass second ≡ last
-unfolding twoPixels opened taken takeOut made bringBack closed aPass second last openRun runTest openOf openTestsOf firstRecord encode wordsWith isAccepted judge openTests openRunTests runTests inputTests imageTests inkTests eyeTests firstUnnamed pixelCount inkCount tilingOf kernelRadius blurRadius ceil sigmaPx toDegrees isFinitePositive tiles rows columns side margin cpeOf cppOf sceneOf inksOf inkValues inkValue ink channel errorOf initialError channelError errorTerm fieldOf fieldValue fieldAt channelKernel correlateAt correlateRow correlateTerm errorAt targetAt colourAt halftoneAt yycxcz linear srgbToLinear pinnedAt kernelAt eyeKernels overwrite kernelOf autocorrelation correlationAt rowSum gaussianBlur blurOf blurAt sumOf gaussianLine gaussianAt expOf squared series upTo fromTo table add sub mul div neg lt round ofBits ofInt toBits takeRun takeOf takeTests copyOf isDue isWaiting workRun workOf workTests copyTest jobShared refinedCopy putBackRun putBackOf putBackTests countTest withProgress writtenBack isOut isBack closeRun closeOf closeTests wordsTests wordsAfter rewritten wordOver decode recordTests radiusFits pixelsOf firstOf isMissing nextRecord nextWith withDeltas released image tile region tileX tileY inPhase crop paste cell put place columnAt rowAt valueAt inside area width height refineTile refineRow visitOf applied evaluateOf swaps trySwap partnerOf toggles tryToggle centres centreOf gaps besideOf toggleCost swapCost movedIndices movedCpe addKernels sweepOf sweepRow sweepPixel addAt grow isNan nanBits onRun putBackOver closedOver
+unfolding twoPixels opened taken takeOut made bringBack closed aPass second last openRun openedOver wordsOpened runTest openOf openTestsOf firstRecord encode wordsWith isAccepted judge openTests openRunTests runTests inputTests imageTests inkTests eyeTests firstUnnamed pixelCount inkCount tilingOf kernelRadius blurRadius ceil sigmaPx toDegrees isFinitePositive tiles rows columns side margin cpeOf cppOf sceneOf inksOf inkValues inkValue ink channel errorOf initialError channelError errorTerm fieldOf fieldValue fieldAt channelKernel correlateAt correlateRow correlateTerm errorAt targetAt colourAt halftoneAt yycxcz linear srgbToLinear pinnedAt kernelAt eyeKernels overwrite kernelOf autocorrelation correlationAt rowSum gaussianBlur blurOf blurAt sumOf gaussianLine gaussianAt expOf squared series upTo fromTo table add sub mul div neg lt round ofBits ofInt toBits takeRun takeOf takeTests copyOf isDue inState workRun workOf workTests copyTest jobShared refinedCopy putBackRun putBackOf putBackTests countTest withProgress writtenBack stateOf closeRun closeOf closeTests wordsTests wordsAfter rewritten wordOver decode recordTests radiusFits pixelsOf firstOf isMissing nextRecord nextWith withDeltas released image tile region tileX tileY inPhase crop paste cell put place columnAt rowAt valueAt inside area width height refineTile refineRow visitOf applied evaluateOf swaps trySwap partnerOf toggles tryToggle centres centreOf gaps besideOf toggleCost swapCost movedIndices movedCpe addKernels sweepOf sweepRow sweepPixel addAt grow isNan nanBits onRun putBackOver closedOver
 pass-two = refl
 
 -- 'indices 0 1', 'passes 2', 'accepted 1 0'
@@ -183,5 +183,5 @@ descending : closed (bringBack 0 (made mask handKernels inks 0 67 strip) (bringB
   states = 0 ∷ 0 ∷ 0 ∷ [];
   deltas = f64 0xbff0000000000000 ∷ nan ∷ f64 0xc33fffffffffffff ∷ [];
 }
-unfolding strip mask handKernels inks oneOut taken takeOut made bringBack closed runTest judge isAccepted firstUnnamed tiles rows columns side margin pinnedAt kernelAt wordsWith upTo fromTo table add sub mul div neg lt round ofBits toBits takeRun takeOf takeTests copyOf isDue isWaiting workRun workOf workTests copyTest jobShared refinedCopy putBackRun putBackOf putBackTests countTest withProgress writtenBack isOut isBack closeRun closeOf closeTests wordsTests wordsAfter rewritten wordOver decode recordTests radiusFits pixelsOf firstOf isMissing nextRecord nextWith withDeltas released image tile region tileX tileY inPhase crop paste cell put place columnAt rowAt valueAt inside area width height refineTile refineRow visitOf applied evaluateOf swaps trySwap partnerOf toggles tryToggle centres centreOf gaps besideOf toggleCost swapCost movedIndices movedCpe addKernels sweepOf sweepRow sweepPixel addAt grow isNan nanBits onRun putBackOver closedOver
+unfolding strip mask handKernels inks oneOut taken takeOut made bringBack closed runTest judge isAccepted firstUnnamed tiles rows columns side margin pinnedAt kernelAt wordsWith upTo fromTo table add sub mul div neg lt round ofBits toBits takeRun takeOf takeTests copyOf isDue inState workRun workOf workTests copyTest jobShared refinedCopy putBackRun putBackOf putBackTests countTest withProgress writtenBack stateOf closeRun closeOf closeTests wordsTests wordsAfter rewritten wordOver decode recordTests radiusFits pixelsOf firstOf isMissing nextRecord nextWith withDeltas released image tile region tileX tileY inPhase crop paste cell put place columnAt rowAt valueAt inside area width height refineTile refineRow visitOf applied evaluateOf swaps trySwap partnerOf toggles tryToggle centres centreOf gaps besideOf toggleCost swapCost movedIndices movedCpe addKernels sweepOf sweepRow sweepPixel addAt grow isNan nanBits onRun putBackOver closedOver
 descending = refl

@@ -1,4 +1,6 @@
 pub mod Bools
+pub mod StateLaws
+pub mod FirstLaws
 pub mod Validity
 pub mod Answers
 pub mod RowsOf

@@ -10,7 +10,7 @@ use Rattle.base.specs.declared.Status.{Status}
 use Rattle.base.specs.Refusal.{judge, accepted}
 use Rattle.tile.specs.Tile.{State}
 use Rattle.job.specs.declared.JobRecord.{JobRecord}
-use Rattle.job.specs.Words.{runTest, wordsTests, decode}
+use Rattle.job.specs.Words.{runLength, runTest, wordsTests, decode}
 use Rattle.job.specs.Copy.{Pixels}
 use Rattle.job.specs.Take.{takeOf}
 use Rattle.job.specs.Work.{workOf}
@@ -23,7 +23,7 @@ use Rattle.job.specs.Demand1.{ValidRun}
 
 pub reads : (words : List ℕ) → ValidRun words → judge (wordsTests words) ≡ accepted
 unfolding judge wordsTests runTest
-reads words s = rw (eq-eqb (length words) 12 (s .twelve), le-ltb 1 (getD words 11 0) (s .flag))
+reads words s = rw (eq-eqb (length words) runLength (s .whole), le-ltb 1 (getD words 11 0) (s .flag))
 
 pub on-run : {A : Type 0} (words : List ℕ) (refused : Status → A) (call : JobRecord → A) → ValidRun words → onRun words refused call ≡ call (decode words)
 unfolding onRun

@@ -18,8 +18,8 @@ use Rattle.prepare.specs.Prepare.{tilingOf, inksOf, cppOf, cpeOf, sharedOf}
 use Rattle.prepare.proofs.Laws.{start-ready}
 use Rattle.job.specs.Copy.{pixels}
 use Rattle.job.specs.Words.{runTest, encode}
-use Rattle.job.specs.Open.{Opening, Opened, openTestsOf, firstRecord, openOf}
-use Rattle.job.specs.Boundary.{OpenedRun, openedRun, openRun}
+use Rattle.job.specs.Open.{Opening, Opened, opened, openTestsOf, firstRecord, openOf}
+use Rattle.job.specs.Boundary.{openedOver, wordsOpened, openRun}
 use Rattle.job.specs.Runs.{start}
 use Rattle.job.proofs.Answers.{open-answers}
 
@@ -54,25 +54,22 @@ module _ (O : Opening) (ok : openOf O .status ≡ accepted) where
 -- ---- as a C host opens it
 
 module _ (words : List ℕ) (O : Opening) (ok : openRun words O .status ≡ accepted) where
-  abbrev tried : Opened
-  tried = openOf O
-
   passed : isAccepted (judge (runTest words ∷ [])) ≡ true
   unfolding openRun
   passed = go (isAccepted (judge (runTest words ∷ []))) refl ok
     where
       go : (b : Bool) → isAccepted (judge (runTest words ∷ [])) ≡ b →
-          cond {A = OpenedRun} b (openedRun (tried .status) (cond (isAccepted (tried .status)) (encode (tried .rec)) words) (tried .cpe) (tried .cpp) (tried .states) (tried .deltas) (tried .inks)) (openedRun (judge (runTest words ∷ [])) words (O .cpe) (O .cpp) (O .states) (O .deltas) (O .inks)) .status ≡ accepted → b ≡ true
+          cond {A = Opened (List ℕ)} b (openedOver words (openOf O)) (opened (judge (runTest words ∷ [])) words (O .cpe) (O .cpp) (O .states) (O .deltas) (O .inks)) .status ≡ accepted → b ≡ true
       go true e a = refl
       go false e a = absurd (true≢false (sym is-accepted ∙ ap isAccepted (sym a) ∙ e))
 
   -- the open on the record is accepted too
   pub opens : openOf O .status ≡ accepted
-  unfolding openRun
+  unfolding openRun openedOver
   opens = rw passed at ok
 
-  pub run-leaves : openRun words O ≡ openedRun accepted (encode (firstRecord O)) (cpeOf (O .input) (O .cpp)) (cppOf (O .input) (O .cpp)) (replicate (tiles (tilingOf (O .input))) 0) (replicate (tiles (tilingOf (O .input))) f0) (inksOf (O .input))
-  unfolding openRun
+  pub run-leaves : openRun words O ≡ opened accepted (encode (firstRecord O)) (cpeOf (O .input) (O .cpp)) (cppOf (O .input) (O .cpp)) (replicate (tiles (tilingOf (O .input))) 0) (replicate (tiles (tilingOf (O .input))) f0) (inksOf (O .input))
+  unfolding openRun openedOver wordsOpened
   run-leaves = rw (passed, leaves O opens, is-accepted)
 
   -- a job at its start

@@ -23,7 +23,7 @@ use Rattle.tile.specs.Tile.{State}
 use Rattle.walk.specs.Walk.{Refined, Walk, walkTiles, phaseEnd, walkPhase}
 use Rattle.job.specs.declared.JobRecord.{JobRecord}
 use Rattle.job.specs.declared.Plan.{Plan}
-use Rattle.job.specs.Record.{jobShared, stored, isBack}
+use Rattle.job.specs.Record.{jobShared, stored, inState}
 use Rattle.job.specs.Copy.{Pixels, pixels, copyOf, refinedCopy, writtenBack}
 use Rattle.job.specs.Take.{takeOf}
 use Rattle.job.specs.Work.{Worked, workOf}
@@ -32,6 +32,7 @@ use Rattle.job.specs.Close.{withDeltas, released, nextRecord, nextWith, 
 use Rattle.job.specs.Valid.{ValidTile, ValidTake, ValidPutBack, ValidClose}
 use Rattle.job.specs.Claim.{Same}
 use Rattle.job.proofs.Bools.{both}
+use Rattle.job.proofs.StateLaws.{isBack, back-byte}
 use Rattle.job.proofs.Merge.{Half, WholeImage, brought, home, merge, merge-cong, merge-keeps, merge-whole, merge-copy, merge-insert, joinDeltas, joinDeltas-cong, pixelsAt, pixelsNow, halfNow, walk-all, walk-reached}
 use Rattle.job.proofs.Answers.{work-answers}
 
@@ -50,16 +51,16 @@ home-due T p states t h = both (inPhase T p t) (isBack states t) h .0
 
 -- tile states are read alike where the bytes are alike
 home-byte : (T : Tiling) (p : ℕ) (states states′ : List ℕ) (t : ℕ) → getD states t 0 ≡ getD states′ t 0 → isHome T p states t ≡ isHome T p states′ t
-unfolding isHome isBack
+unfolding isHome inState
 home-byte T p states states′ t e = rw e
 
 home-back : (T : Tiling) (p : ℕ) (states : List ℕ) (t : ℕ) → inPhase T p t ≡ true → 1 < getD states t 0 → isHome T p states t ≡ true
-unfolding isHome isBack
-home-back T p states t i h = rw (i, lt-ltb 1 (getD states t 0) h)
+unfolding isHome
+home-back T p states t i h = rw (i, back-byte states t, lt-ltb 1 (getD states t 0) h)
 
 home-away : (T : Tiling) (p : ℕ) (states : List ℕ) (t : ℕ) → getD states t 0 ≤ 1 → isHome T p states t ≡ false
-unfolding isHome isBack
-home-away T p states t h = rw (le-ltb 1 (getD states t 0) h) (go (inPhase T p t))
+unfolding isHome
+home-away T p states t h = rw (back-byte states t, le-ltb 1 (getD states t 0) h) (go (inPhase T p t))
   where
     go : (b : Bool) → (b && false) ≡ false
     go true = refl

@@ -27,7 +27,7 @@ use Rattle.tile.specs.Tile.{State}
 use Rattle.walk.specs.Walk.{Walk}
 use Rattle.walk.proofs.Ends.{Going, walk-stage}
 use Rattle.job.specs.declared.Plan.{Plan}
-use Rattle.job.specs.Record.{pixelsOf, isBack}
+use Rattle.job.specs.Record.{pixelsOf, stateOf, inState}
 use Rattle.job.specs.Copy.{pixels, copyOf, refinedCopy}
 use Rattle.job.specs.Open.{Opening}
 use Rattle.job.specs.Boundary.{openRun, workRun}
@@ -38,6 +38,7 @@ use Rattle.job.specs.Valid.{ValidRecord, ValidTile, ValidTake, ValidWork
 use Rattle.job.specs.Runs.{Call, Job, rec, answer, after, isClose, closesAfter}
 use Rattle.job.specs.Claim.{Own, WorkMade, Brings, Fair, phases}
 use Rattle.job.specs.Companions.{missing, sumTo, AllAccepted, closesIn, Closing, Progress, Doubles}
+use Rattle.job.proofs.StateLaws.{isBack, back-byte}
 use Rattle.job.proofs.Merge.{brought, pixelsNow}
 use Rattle.job.proofs.Answers.{take-answers, work-answers, putBack-answers, close-answers}
 use Rattle.job.proofs.Validity.{take-passes, work-passes, putBack-passes, close-passes}
@@ -97,7 +98,7 @@ missingAt T p states = sumTo (awayAt T p states) (tiles T)
 module _ (T : Tiling) (p : ℕ) (states : List ℕ) (t : ℕ) (room : t < length states) where
   -- a tile that is taken stays among them
   missing-took : getD states t 0 ≡ 0 → missingAt T p (set states t 1) ≡ missingAt T p states
-  unfolding isBack
+  unfolding inState stateOf
   missing-took e = sum-same _ _ (tiles T) (λ u h. go u (ℕ-discrete u t))
     where
       go : (u : ℕ) → Dec (u ≡ t) → awayAt T p (set states t 1) u ≡ awayAt T p states u
@@ -106,7 +107,7 @@ module _ (T : Tiling) (p : ℕ) (states : List ℕ) (t : ℕ) (room : t < length
 
   -- one that comes back leaves them
   missing-back : inPhase T p t ≡ true → getD states t 0 ≡ 1 → t < tiles T → missingAt T p states ≡ missingAt T p (set states t 2) + 1
-  unfolding isBack
+  unfolding inState stateOf
   missing-back i e low = sum-one _ _ 1 t (rw (i, e, getD-set-same states t 2 0 room)) (λ u q. rw (getD-set-other states t u 2 0 q)) (tiles T) low
 
 -- ---- from one state with the invariant to the next
@@ -244,7 +245,7 @@ module _ (words : List ℕ) (O : Opening) (ok : openRun words O .status ≡ acce
 
       -- the tile is one of those to come, so its pixels are still free
       fits-now : rec J .accepted + made .progress .accepted ≤ T .height * T .width
-      unfolding isBack
+      unfolding inState stateOf
       fits-now =
           let mine : cond (toCome T (w .phase) (isBack (J .states)) t) (area (tile T t)) 0 ≡ area (tile T t) = rw (here, out) (either-way (ltb (w .phase) (phaseOf T t))) in
           omega (arith, few, mine, sum-term (λ t. cond (toCome T (w .phase) (isBack (J .states)) t) (area (tile T t)) 0) (tiles T) t low, mid-fits O m (stage J) H)
@@ -365,15 +366,14 @@ module _ (words : List ℕ) (O : Opening) (ok : openRun words O .status ≡ acce
         go (no q) = at-most _ (omega arith) (from-out k rest J L t low here (omega (arith, away, q)))
 
   all-closed : (k : ℕ) (J : Job) → Left k J → Closing words O J (2 * k + 1)
-  unfolding isBack
   all-closed zero J L =
       at-most _ (omega arith) (all-back words O ok m J (L .mid) (L .running) (λ t l i.
-      ltb-true 1 (getD (J .states) t 0) (is-back _ _ i (sum-none (awayAt T′ phase (J .states)) (tiles T′) (L .count) t l))))
+      ltb-true 1 (getD (J .states) t 0) (sym (back-byte (J .states) t) ∙ is-back _ _ i (sum-none (awayAt T′ phase (J .states)) (tiles T′) (L .count) t l))))
   all-closed (suc k) J L =
       let some = sum-some (awayAt T′ phase (J .states)) (tiles T′) (λ e. omega (arith, e, L .count)) in
       let t = some .0 in
       let a = is-away (inPhase T′ phase t) (isBack (J .states) t) (some .2) in
-      from-away k (all-closed k) J L t (some .1) (a .0) (ltb-false 1 (getD (J .states) t 0) (a .1))
+      from-away k (all-closed k) J L t (some .1) (a .0) (ltb-false 1 (getD (J .states) t 0) (sym (back-byte (J .states) t) ∙ a .1))
 
 pub progress : Progress
 progress words O J r running =

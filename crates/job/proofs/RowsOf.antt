@@ -3,7 +3,7 @@ use Prim.Native.Nat.{ℕ, zero, suc, _+_, _*_, _%_, _≤_, _<_}
 use native.Mathlib.Omega.{arith}
 use native.Mathlib.Decide.{ℕ-discrete}
 use mathlib.Core.Path.{_≡_, refl}
-use mathlib.Core.Logic.{_⊎_}
+use mathlib.Core.Logic.{_≢_, _⊎_}
 use mathlib.Core.Bool.{Bool, true, false, not, cond}
 use mathlib.Core.List.{List, _∷_, _++_}
 use borrow.Author.Tests.{ltb-true, ltb-false, eqb-true, eqb-false}
@@ -20,8 +20,9 @@ use Rattle.tiling.specs.Tiling.{tiles, inPhase, tile, region}
 use Rattle.input.proofs.RowsOf.{unnamed, open-rows}
 use Rattle.tile.specs.Tile.{State}
 use Rattle.job.specs.declared.JobRecord.{JobRecord}
-use Rattle.job.specs.Record.{pixelsOf, radiusFits, recordTests, isDue, isWaiting, isOut, isBack}
-use Rattle.job.specs.Words.{runTest, wordsTests, decode}
+use Rattle.job.specs.declared.TileState.the-variants.{Waiting, Out}
+use Rattle.job.specs.Record.{pixelsOf, radiusFits, recordTests, isDue, isIn}
+use Rattle.job.specs.Words.{runLength, runTest, wordsTests, decode}
 use Rattle.job.specs.Copy.{Pixels}
 use Rattle.job.specs.Open.{Opening, openTestsOf}
 use Rattle.job.specs.Take.{takeTests}
@@ -29,6 +30,8 @@ use Rattle.job.specs.Work.{copyTest, workTests}
 use Rattle.job.specs.PutBack.{countTest, putBackTests}
 use Rattle.job.specs.Close.{firstOf, isMissing, closeTests}
 use Rattle.job.specs.Rows.{WrongRadius, wrongRecord, row12, row15, openRunRows, takeRows, workRows, putBackRows, closeRows}
+use Rattle.job.proofs.StateLaws.{waiting-byte, out-byte, back-byte}
+use Rattle.job.proofs.FirstLaws.{first-is}
 
 -- ---- row 12
 
@@ -56,37 +59,14 @@ first-12 : (words : List ℕ) {gs : List Test} {ls : List Line} {ts : List Test}
     Decides (wordsTests words ++ (recordTests (decode words) ++ (gs ++ ts))) (row12 words ls ∷ rs)
 unfolding wordsTests runTest recordTests wrongRecord Rises
 first-12 words {ls = ls} more rises rest =
-    by-lines (tells (denied (ne (length words) 12)) (tells (lt 1 (getD words 11 0)) (record-tells (decode words) more)))
+    by-lines (tells (denied (ne (length words) runLength)) (tells (lt 1 (getD words 11 0)) (record-tells (decode words) more)))
     (omega arith, (omega arith, (omega arith, (omega arith, (omega arith, (omega arith, (omega arith, (omega arith, (omega arith, (omega arith, (omega arith, rises))))))))))) rest
 
 -- ---- row 15
 
--- p is the first place below n with f, or n
-record First (f : ℕ → Bool) (n p : ℕ) : Type 0 where
-  bound : p ≤ n
-  before : (i : ℕ) → i < p → f i ≡ false
-  there : p < n → f p ≡ true
-
-first-is : (f : ℕ → Bool) (n : ℕ) → First f n (firstOf f n)
-unfolding firstOf upTo
-first-is f zero = record { bound = omega arith; before = λ i h. absurd (omega arith); there = λ h. absurd (omega arith) }
-first-is f (suc n) = go (eqb (firstOf f n) n) refl (f n) refl (first-is f n)
-  where
-    go : (c : Bool) → eqb (firstOf f n) n ≡ c → (d : Bool) → f n ≡ d → First f n (firstOf f n) → First f (suc n) (cond c (cond d n (suc n)) (firstOf f n))
-    go true q true z ih = let e = eqb-true (firstOf f n) n q in record { bound = omega arith; before = λ i h. ih .before i (omega arith); there = λ h. z }
-    go true q false z ih = record { bound = omega arith; before = earlier; there = λ h. absurd (omega arith) }
-      where
-        at : (i : ℕ) → i < suc n → Dec (i ≡ n) → f i ≡ false
-        at i h (yes s) = rw s z
-        at i h (no s) = ih .before i (omega (arith, s, eqb-true (firstOf f n) n q))
-
-        earlier : (i : ℕ) → i < suc n → f i ≡ false
-        earlier i h = at i h (ℕ-discrete i n)
-    go false q d z ih = record { bound = omega (arith, ih .bound); before = ih .before; there = λ h. ih .there (omega (arith, ih .bound, eqb-false (firstOf f n) n q)) }
-
 missing-means : (r : JobRecord) (states : List ℕ) (t : ℕ) → Means (isMissing r states t) ((inPhase (r .plan .tiling) (r .phase) t ≡ true) × (getD states t 0 ≤ 1))
-unfolding isMissing isBack
-missing-means r states t = and (is (inPhase (r .plan .tiling) (r .phase) t)) (denied (ge 1 (getD states t 0)))
+unfolding isMissing
+missing-means r states t = rw (back-byte states t) (and (is (inPhase (r .plan .tiling) (r .phase) t)) (denied (ge 1 (getD states t 0))))
 
 not-back : (r : JobRecord) (states : List ℕ) {ts : List Test} {rs : List Row} → Decides ts rs →
     let p = firstOf (isMissing r states) (tiles (r .plan .tiling)) in Decides (test (ltb p (tiles (r .plan .tiling))) 15 p ∷ ts) (row15 r states ∷ rs)
@@ -103,20 +83,26 @@ not-back r states rest =
 length-means : (a b : ℕ) → Means (not (eqb a b)) (a ≡ b → ⊥)
 length-means a b = denied (ne a b)
 
+waiting-means : (states : List ℕ) (t : ℕ) → Means (not (isIn Waiting states t)) (getD states t 0 ≢ 0)
+waiting-means states t = rw (waiting-byte states t) (length-means (getD states t 0) 0)
+
+out-means : (states : List ℕ) (t : ℕ) → Means (not (isIn Out states t)) (getD states t 0 ≢ 1)
+out-means states t = rw (out-byte states t) (length-means (getD states t 0) 1)
+
 due-means : (r : JobRecord) (t : ℕ) → Means (not (isDue r t)) ((tiles (r .plan .tiling) ≤ t) ⊎ (inPhase (r .plan .tiling) (r .phase) t ≡ false))
 unfolding isDue
 due-means r t = denied (not-and (ge t (tiles (r .plan .tiling))) (isnt (inPhase (r .plan .tiling) (r .phase) t)))
 
 pub open-decides : (words : List ℕ) (O : Opening) → Decides (runTest words ∷ openTestsOf O) (openRunRows words O)
 unfolding runTest openTestsOf openRunRows
-open-decides words O = at-0 (length-means (length words) 12) (open-rows (O .input) (O .passes) _ _ _ _ _ _ _)
+open-decides words O = at-0 (length-means (length words) runLength) (open-rows (O .input) (O .passes) _ _ _ _ _ _ _)
 
 module _ (words : List ℕ) (t : ℕ) (image : Pixels) (states : List ℕ) where
   abbrev r : JobRecord
   r = decode words
 
   pub take-decides : (copy : Pixels) → Decides (wordsTests words ++ takeTests r t image states copy) (takeRows words t image states copy)
-  unfolding takeTests takeRows isWaiting Rises
+  unfolding takeTests takeRows Rises
   take-decides copy =
       first-12 words told tt
       (at-0 (is (r .finished))
@@ -127,10 +113,10 @@ module _ (words : List ℕ) (t : ℕ) (image : Pixels) (states : List ℕ) where
       (tells (length-means (length states) (tiles (r .plan .tiling)))
       (tells (length-means (length (copy .cpe)) (3 * area (region (r .plan .tiling) t)))
       (tells (length-means (length (copy .indices)) (area (region (r .plan .tiling) t))) told))))
-      (omega arith) (at-0 (length-means (getD states t 0) 0) decided)))))
+      (omega arith) (at-0 (waiting-means states t) decided)))))
 
   pub putBack-decides : (deltas : List Float) (made : State) → Decides (wordsTests words ++ putBackTests r t image states deltas made) (putBackRows words t image states deltas made)
-  unfolding putBackTests countTest copyTest putBackRows isOut Rises
+  unfolding putBackTests countTest copyTest putBackRows Rises
   putBack-decides deltas made =
       let count = made .progress .accepted in
       first-12 words
@@ -145,7 +131,7 @@ module _ (words : List ℕ) (t : ℕ) (image : Pixels) (states : List ℕ) where
       (tells (length-means (length deltas) (tiles (r .plan .tiling)))
       (tells (length-means (length (made .cpe)) (3 * area (region (r .plan .tiling) t)))
       (tells (length-means (length (made .indices)) (area (region (r .plan .tiling) t))) told)))))
-      (omega arith) (at-0 (length-means (getD states t 0) 1) (unnamed (r .plan .inks) (made .indices) decided))))))
+      (omega arith) (at-0 (out-means states t) (unnamed (r .plan .inks) (made .indices) decided))))))
 
 pub work-decides : (words : List ℕ) (t : ℕ) (pinned : List ℕ) (cpp : List Float) (copy : Pixels) (inks : List Float) →
     Decides (wordsTests words ++ workTests (decode words) t pinned cpp copy inks) (workRows words t pinned cpp copy inks)

@@ -2,7 +2,7 @@
 use Prim.Native.Nat.{ℕ, zero, suc, _+_, _*_, _%_, _≤_, _<_}
 use native.Mathlib.Omega.{arith}
 use native.Mathlib.Decide.{ℕ-discrete}
-use mathlib.Core.Path.{_≡_, refl, ap}
+use mathlib.Core.Path.{_≡_, refl, sym, ap, _∙_}
 use mathlib.Core.Logic.{_↔_}
 use mathlib.Core.Bool.{Bool, true, false, not, cond, _&&_}
 use mathlib.Core.List.{List}
@@ -21,7 +21,8 @@ use Rattle.base.proofs.JudgeLaws.{passes-append}
 use Rattle.input.proofs.FirstUnnamed.{named-of, of-named}
 use Rattle.tile.specs.Tile.{State}
 use Rattle.job.specs.declared.JobRecord.{JobRecord}
-use Rattle.job.specs.Record.{pixelsOf, radiusFits, recordTests, isDue, isWaiting, isOut, isBack}
+use Rattle.job.specs.declared.TileState.the-variants.{Waiting, Out}
+use Rattle.job.specs.Record.{pixelsOf, radiusFits, recordTests, isDue, isIn}
 use Rattle.job.specs.Copy.{Pixels}
 use Rattle.job.specs.Take.{takeTests}
 use Rattle.job.specs.Work.{copyTest, workTests}
@@ -29,6 +30,8 @@ use Rattle.job.specs.PutBack.{countTest, putBackTests}
 use Rattle.job.specs.Close.{firstOf, isMissing, closeTests}
 use Rattle.job.specs.Valid.{ValidRecord, ValidTile, ValidTake, ValidWork, ValidPutBack, ValidClose}
 use Rattle.job.proofs.Bools.{both, and-true, or-false, implied}
+use Rattle.job.proofs.FirstLaws.{first-is, none-first}
+use Rattle.job.proofs.StateLaws.{waiting-byte, out-byte, back-byte}
 
 -- ---- tests as facts
 
@@ -117,40 +120,13 @@ of-due r t h i = ap not (and-true (lt-ltb _ _ h) i)
 
 -- ---- the first of a phase's tiles that is not back
 
-first-le : (f : ℕ → Bool) (n : ℕ) → firstOf f n ≤ n
-unfolding firstOf
-first-le f n = upTo-ind (λ i a. a ≤ i) _ n (λ i h a p. go i a p (eqb a i) (f i)) 0 (omega arith)
-  where
-    go : (i a : ℕ) → a ≤ i → (b c : Bool) → cond b (cond c i (suc i)) a ≤ suc i
-    go i a p true true = omega arith
-    go i a p true false = omega arith
-    go i a p false c = omega arith
-
-first-none : (f : ℕ → Bool) (n : ℕ) → n ≤ firstOf f n → (i : ℕ) → i < n → f i ≡ false
-unfolding firstOf upTo
-first-none f zero h i b = absurd (omega arith)
-first-none f (suc n) h i b = go (eqb (firstOf f n) n) refl (f n) refl h (first-none f n)
-  where
-    at : f n ≡ false → firstOf f n ≡ n → (n ≤ firstOf f n → (i : ℕ) → i < n → f i ≡ false) → Dec (i ≡ n) → f i ≡ false
-    at z q ih (yes s) = rw s z
-    at z q ih (no s) = ih (omega arith) i (omega (arith, s))
-
-    go : (c : Bool) → eqb (firstOf f n) n ≡ c → (e : Bool) → f n ≡ e → suc n ≤ cond c (cond e n (suc n)) (firstOf f n) → (n ≤ firstOf f n → (i : ℕ) → i < n → f i ≡ false) → f i ≡ false
-    go true q true z h ih = absurd (omega arith)
-    go true q false z h ih = at z (eqb-true (firstOf f n) n q) ih (ℕ-discrete i n)
-    go false q e z h ih = absurd (omega (arith, first-le f n))
-
-pub none-first : (f : ℕ → Bool) (n : ℕ) → ((i : ℕ) → i < n → f i ≡ false) → firstOf f n ≡ n
-unfolding firstOf
-none-first f n g = upTo-ind (λ i a. a ≡ i) _ n (λ i h a e. rw (e, eq-eqb i i refl, g i h)) 0 refl
-
 pub missing-none : (r : JobRecord) (states : List ℕ) (t : ℕ) → isMissing r states t ≡ false → inPhase (r .plan .tiling) (r .phase) t ≡ true → 1 < getD states t 0
-unfolding isMissing isBack
-missing-none r states t h i = ltb-true _ _ (not-false _ (implied _ _ h i))
+unfolding isMissing
+missing-none r states t h i = ltb-true _ _ (sym (back-byte states t) ∙ not-false _ (implied _ _ h i))
 
 none-missing : (r : JobRecord) (states : List ℕ) (t : ℕ) → (inPhase (r .plan .tiling) (r .phase) t ≡ true → 1 < getD states t 0) → isMissing r states t ≡ false
-unfolding isMissing isBack
-none-missing r states t f = go (inPhase (r .plan .tiling) (r .phase) t) f
+unfolding isMissing
+none-missing r states t f = rw (back-byte states t) (go (inPhase (r .plan .tiling) (r .phase) t) f)
   where
     go : (b : Bool) → (b ≡ true → 1 < getD states t 0) → (b && not (ltb 1 (getD states t 0))) ≡ false
     go true f = ap not (lt-ltb _ _ (f refl))
@@ -168,7 +144,7 @@ module _ (r : JobRecord) (t : ℕ) (image : Pixels) (states : List ℕ) where
 
   module _ (copy : Pixels) where
     pub take-passes : Passes (takeTests r t image states copy) ↔ ValidTake r t image states copy
-    unfolding takeTests Passes isWaiting
+    unfolding takeTests Passes
     take-passes = (
       λ p.
           let q = passes-append (recordTests r) _ .0 p in
@@ -176,7 +152,7 @@ module _ (r : JobRecord) (t : ℕ) (image : Pixels) (states : List ℕ) where
           record {
             on = tile-of (record-of r (q .0)) (c .0) (c .1 .0) (c .1 .1 .0) (c .1 .1 .1 .0) (c .1 .1 .1 .1 .0);
             room = record { cpe-length = equal-of _ _ (c .1 .1 .1 .1 .1 .0); indices-length = equal-of _ _ (c .1 .1 .1 .1 .1 .1 .0) };
-            waiting = equal-of _ _ (c .1 .1 .1 .1 .1 .1 .1 .0);
+            waiting = equal-of _ _ (rw (waiting-byte states t) at (c .1 .1 .1 .1 .1 .1 .1 .0));
           },
       λ v.
           let tile = of-due r t (v .on .tile-has) (v .on .due) in
@@ -185,7 +161,7 @@ module _ (r : JobRecord) (t : ℕ) (image : Pixels) (states : List ℕ) where
           let bytes = of-equal (length states) (tiles (r .plan .tiling)) (v .on .states-length) in
           let copy-cpe = of-equal (length (copy .cpe)) (3 * area (region (r .plan .tiling) t)) (v .room .cpe-length) in
           let copy-indices = of-equal (length (copy .indices)) (area (region (r .plan .tiling) t)) (v .room .indices-length) in
-          let waits = of-equal (getD states t 0) 0 (v .waiting) in
+          let waits : not (isIn Waiting states t) ≡ false = rw (waiting-byte states t) (of-equal (getD states t 0) 0 (v .waiting)) in
           passes-append (recordTests r) _ .1 (of-record r (v .on .valid), (v .on .unfinished, (tile, (indices, (cpe, (bytes, (copy-cpe, (copy-indices, (waits, tt))))))))),
     )
 
@@ -206,7 +182,7 @@ module _ (r : JobRecord) (t : ℕ) (image : Pixels) (states : List ℕ) where
         go false = refl
 
     pub putBack-passes : Passes (putBackTests r t image states deltas made) ↔ ValidPutBack r t image states deltas made
-    unfolding putBackTests Passes isOut copyTest
+    unfolding putBackTests Passes copyTest
     putBack-passes = (
       λ p.
           let q = passes-append (recordTests r) _ .0 p in
@@ -218,7 +194,7 @@ module _ (r : JobRecord) (t : ℕ) (image : Pixels) (states : List ℕ) where
             total-most = n .1;
             deltas-length = equal-of _ _ (c .1 .1 .1 .1 .1 .0);
             room = record { cpe-length = equal-of _ _ (c .1 .1 .1 .1 .1 .1 .0); indices-length = equal-of _ _ (c .1 .1 .1 .1 .1 .1 .1 .0) };
-            out = equal-of _ _ (c .1 .1 .1 .1 .1 .1 .1 .1 .0);
+            out = equal-of _ _ (rw (out-byte states t) at (c .1 .1 .1 .1 .1 .1 .1 .1 .0));
             named = named-of _ _ (c .1 .1 .1 .1 .1 .1 .1 .1 .1 .0);
           },
       λ v.
@@ -230,7 +206,7 @@ module _ (r : JobRecord) (t : ℕ) (image : Pixels) (states : List ℕ) where
           let floats = of-equal (length deltas) (tiles (r .plan .tiling)) (v .deltas-length) in
           let copy-cpe = of-equal (length (made .cpe)) (3 * area (region (r .plan .tiling) t)) (v .room .cpe-length) in
           let copy-indices = of-equal (length (made .indices)) (area (region (r .plan .tiling) t)) (v .room .indices-length) in
-          let out = of-equal (getD states t 0) 1 (v .out) in
+          let out : not (isIn Out states t) ≡ false = rw (out-byte states t) (of-equal (getD states t 0) 1 (v .out)) in
           let named = of-named (r .plan .inks) (made .indices) (v .named) in
           passes-append (recordTests r) _ .1 (of-record r (v .on .valid), (count, (v .on .unfinished, (tile, (indices, (cpe, (bytes, (floats, (copy-cpe, (copy-indices, (out, (named, tt)))))))))))),
     )
@@ -269,7 +245,9 @@ module _ (r : JobRecord) (counts states : List ℕ) (deltas : List Float) where
     λ p.
         let q = passes-append (recordTests r) _ .0 p in
         let c = q .1 in
-        let none = first-none (isMissing r states) (tiles (r .plan .tiling)) (ltb-false _ _ (c .1 .1 .1 .1 .0)) in
+        let n = tiles (r .plan .tiling) in
+        let whole : n ≤ firstOf (isMissing r states) n = ltb-false _ _ (c .1 .1 .1 .1 .0) in
+        let none : (t : ℕ) → t < n → isMissing r states t ≡ false = λ t h. first-is (isMissing r states) n .before t (omega (arith, h, whole)) in
         record {
           valid = record-of r (q .0);
           unfinished = c .0;

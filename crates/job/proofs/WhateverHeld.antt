@@ -22,9 +22,10 @@ use Rattle.refine.specs.Refine.{refinement, refusedStats, refineAccepted, refin
 use Rattle.job.specs.Record.{jobShared}
 use Rattle.job.specs.Words.{runTest, decode, encode}
 use Rattle.job.specs.Copy.{Pixels, refinedCopy}
-use Rattle.job.specs.Open.{Opening, Opened, openTestsOf, firstRecord, openOf}
+use Rattle.job.specs.declared.JobRecord.{JobRecord}
+use Rattle.job.specs.Open.{Opening, Opened, opened, openTestsOf, firstRecord, openOf}
 use Rattle.job.specs.Work.{workTests, workOf}
-use Rattle.job.specs.Boundary.{OpenedRun, openedRun, openRun, onRun, workRun}
+use Rattle.job.specs.Boundary.{openedOver, wordsOpened, openRun, onRun, workRun}
 use Rattle.job.specs.Claim.{phases}
 use Rattle.job.specs.WhateverHeld.{RefinesAlike, AskAlike, SameOpened, OpensAlike, WhateverHeld}
 use Rattle.base.proofs.AnswerLaws.{accepted-is, is-accepted}
@@ -78,7 +79,7 @@ either f false x y z p q = q
 
 status-is : (O : Opening) → openOf O .status ≡ judge (openTestsOf O)
 unfolding openOf
-status-is O = either (λ (a : Opened). a .status) (isAccepted (judge (openTestsOf O))) _ _ _ refl refl
+status-is O = either (λ (a : Opened JobRecord). a .status) (isAccepted (judge (openTestsOf O))) _ _ _ refl refl
 
 module _ (O O′ : Opening) (k : AskAlike O O′) where
   tests-same : openTestsOf O ≡ openTestsOf O′
@@ -116,12 +117,11 @@ module _ (O O′ : Opening) (k : AskAlike O O′) where
 
   module _ (words words′ : List ℕ) where
     -- what a run of the right length comes with
-    abbrev answered : Opening → List ℕ → OpenedRun
-    answered P w =
-        let A = openOf P in
-        openedRun (A .status) (cond (isAccepted (A .status)) (encode (A .rec)) w) (A .cpe) (A .cpp) (A .states) (A .deltas) (A .inks)
+    abbrev answered : Opening → List ℕ → Opened (List ℕ)
+    answered P w = openedOver w (openOf P)
 
     opened-alike : openOf O .status ≡ accepted → SameOpened (tilingOf (O .input)) (answered O words) (answered O′ words′)
+    unfolding openedOver wordsOpened
     opened-alike ok =
         rw (leaves O ok, leaves O′ (sym status-same ∙ ok), is-accepted)
         (record {
@@ -137,8 +137,9 @@ module _ (O O′ : Opening) (k : AskAlike O O′) where
     ofRun = judge (runTest words′ ∷ [])
 
     judged-open : (t : Bool) → isAccepted ofRun ≡ t → OpensAlike (tilingOf (O .input))
-        (cond t (answered O words) (openedRun ofRun words (O .cpe) (O .cpp) (O .states) (O .deltas) (O .inks)))
-        (cond t (answered O′ words′) (openedRun ofRun words′ (O′ .cpe) (O′ .cpp) (O′ .states) (O′ .deltas) (O′ .inks)))
+        (cond t (answered O words) (opened ofRun words (O .cpe) (O .cpp) (O .states) (O .deltas) (O .inks)))
+        (cond t (answered O′ words′) (opened ofRun words′ (O′ .cpe) (O′ .cpp) (O′ .states) (O′ .deltas) (O′ .inks)))
+    unfolding openedOver
     judged-open true e = record { status = status-same; left = opened-alike }
     judged-open false e = record { status = refl; left = λ z. absurd (true≢false (sym is-accepted ∙ ap isAccepted (sym z) ∙ e)) }
 

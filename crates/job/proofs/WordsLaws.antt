@@ -13,8 +13,8 @@ use Rattle.base.specs.Loop.{table}
 use Rattle.base.proofs.TableLaws.{table-of}
 use Rattle.bits.proofs.NanLaws.{nan-only}
 use Rattle.job.specs.declared.JobRecord.{JobRecord}
-use Rattle.job.specs.Words.{decode, wordsWith, encode, wordOver, rewritten}
-use Rattle.job.specs.Companions.{Doubles, TwelveWords}
+use Rattle.job.specs.Words.{runLength, decode, wordsWith, encode, wordOver, rewritten}
+use Rattle.job.specs.Companions.{Doubles, WholeRun}
 use Rattle.job.proofs.Bools.{both}
 
 -- ---- a record's words, with any that stand for its errors
@@ -60,8 +60,8 @@ flag-word zero h = refl
 flag-word (suc zero) h = refl
 flag-word (suc (suc n)) h = absurd (omega arith)
 
-pub unchanged : (words : List ℕ) → TwelveWords words → rewritten words (decode words) ≡ words
+pub unchanged : (words : List ℕ) → WholeRun words → rewritten words (decode words) ≡ words
 unfolding rewritten decode wordsWith table
 unchanged words w =
     rw (over-same (getD words 9 0) (w .bits 9 (omega arith)), over-same (getD words 10 0) (w .bits 10 (omega arith)), flag-word (getD words 11 0) (w .flag))
-    (sym (table-of 0 12 (λ i. getD words i 0) words (w .twelve) (λ i h. refl)))
+    (sym (table-of 0 runLength (λ i. getD words i 0) words (w .whole) (λ i h. refl)))

@@ -43,8 +43,8 @@ WorksKeep = (words : List ℕ) (t : ℕ) (pinned : List ℕ) (cpp : List Float) 
 pub record WordStays : Type 0 where
   -- put back changes neither error, close not the initial one
   pub puts : (words : List ℕ) (t : ℕ) (image : Pixels) (states : List ℕ) (deltas : List Float) (made : State) → getD words 9 0 < 2 ^ 64 → getD words 10 0 < 2 ^ 64 →
-      let after = putBackRun words t image states deltas made .words in (getD after 9 0 ≡ getD words 9 0) × (getD after 10 0 ≡ getD words 10 0)
-  pub closes : (words counts states : List ℕ) (deltas : List Float) → getD words 9 0 < 2 ^ 64 → getD (closeRun words counts states deltas .words) 9 0 ≡ getD words 9 0
+      let after = putBackRun words t image states deltas made .rec in (getD after 9 0 ≡ getD words 9 0) × (getD after 10 0 ≡ getD words 10 0)
+  pub closes : (words counts states : List ℕ) (deltas : List Float) → getD words 9 0 < 2 ^ 64 → getD (closeRun words counts states deltas .rec) 9 0 ≡ getD words 9 0
 
 pub record AnyFloats : Type 0 where
   pub works : WorksKeep

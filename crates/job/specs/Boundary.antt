@@ -11,34 +11,27 @@ use Rattle.tile.specs.Tile.{State, state, noProgress}
 use Rattle.job.specs.declared.JobRecord.{JobRecord}
 use Rattle.job.specs.Words.{runTest, wordsTests, decode, encode, rewritten}
 use Rattle.job.specs.Copy.{Pixels}
-use Rattle.job.specs.Open.{Opening, Opened, openOf}
+use Rattle.job.specs.Open.{Opening, Opened, opened, openOf}
 use Rattle.job.specs.Take.{Taken, taken, takeOf}
 use Rattle.job.specs.Work.{Worked, worked, workOf}
-use Rattle.job.specs.PutBack.{PutBack, putBackOf}
-use Rattle.job.specs.Close.{Closed, closeOf}
+use Rattle.job.specs.PutBack.{PutBack, putBack, putBackOf}
+use Rattle.job.specs.Close.{Closed, closed, closeOf}
 
 -- ---- open: the run is only written
 
--- the answer, the run, and every buffer that is written
-pub record OpenedRun : Type 0 where
-  pub status : Status
-  pub words : List ℕ
-  pub cpe : List Float
-  pub cpp : List Float
-  pub states : List ℕ
-  pub deltas : List Float
-  pub inks : List Float
+-- the run after an open that answered s and r
+unfoldable pub wordsOpened : List ℕ → Status → JobRecord → List ℕ
+wordsOpened words s r = let new = encode r in cond (isAccepted s) new words
 
-abbrev pub openedRun : Status → List ℕ → List Float → List Float → List ℕ → List Float → List Float → OpenedRun
-openedRun status words cpe cpp states deltas inks =
-    record { status = status; words = words; cpe = cpe; cpp = cpp; states = states; deltas = deltas; inks = inks }
+-- an open's answer with a record, as one with the run that it leaves
+unfoldable pub openedOver : List ℕ → Opened JobRecord → Opened (List ℕ)
+openedOver words a = opened (a .status) (wordsOpened words (a .status) (a .rec)) (a .cpe) (a .cpp) (a .states) (a .deltas) (a .inks)
 
-unfoldable pub openRun : List ℕ → Opening → OpenedRun
+unfoldable pub openRun : List ℕ → Opening → Opened (List ℕ)
 openRun words O =
     let s = judge (runTest words ∷ []) in
-    let a = openOf O in
-    let new = openedRun (a .status) (cond (isAccepted (a .status)) (encode (a .rec)) words) (a .cpe) (a .cpp) (a .states) (a .deltas) (a .inks) in
-    let kept = openedRun s words (O .cpe) (O .cpp) (O .states) (O .deltas) (O .inks) in
+    let new = openedOver words (openOf O) in
+    let kept = opened s words (O .cpe) (O .cpp) (O .states) (O .deltas) (O .inks) in
     cond (isAccepted s) new kept
 
 -- ---- the calls that read the run
@@ -64,36 +57,17 @@ workRun words t pinned cpp copy inks = onRun words (λ s. worked s (state (copy 
 unfoldable pub wordsAfter : List ℕ → Status → JobRecord → List ℕ
 wordsAfter words s r = let new = rewritten words r in cond (isAccepted s) new words
 
-pub record PutBackRun : Type 0 where
-  pub status : Status
-  pub words : List ℕ
-  pub image : Pixels
-  pub states : List ℕ
-  pub deltas : List Float
+-- a put back's answer with the run that it leaves
+unfoldable pub putBackOver : List ℕ → PutBack JobRecord → PutBack (List ℕ)
+putBackOver words a = putBack (a .status) (wordsAfter words (a .status) (a .rec)) (a .image) (a .states) (a .deltas)
 
-abbrev pub putBackWith : Status → List ℕ → Pixels → List ℕ → List Float → PutBackRun
-putBackWith status words image states deltas = record { status = status; words = words; image = image; states = states; deltas = deltas }
-
--- a put back on the record, with the run that it leaves
-unfoldable pub putBackOver : List ℕ → PutBack → PutBackRun
-putBackOver words a = putBackWith (a .status) (wordsAfter words (a .status) (a .rec)) (a .image) (a .states) (a .deltas)
-
-unfoldable pub putBackRun : List ℕ → ℕ → Pixels → List ℕ → List Float → State → PutBackRun
+unfoldable pub putBackRun : List ℕ → ℕ → Pixels → List ℕ → List Float → State → PutBack (List ℕ)
 putBackRun words t image states deltas made =
-    onRun words (λ s. putBackWith s words image states deltas) (λ r. putBackOver words (putBackOf r t image states deltas made))
+    onRun words (λ s. putBack s words image states deltas) (λ r. putBackOver words (putBackOf r t image states deltas made))
 
-pub record ClosedRun : Type 0 where
-  pub status : Status
-  pub words : List ℕ
-  pub counts : List ℕ
-  pub states : List ℕ
+-- a close's answer with the run that it leaves
+unfoldable pub closedOver : List ℕ → Closed JobRecord → Closed (List ℕ)
+closedOver words a = closed (a .status) (wordsAfter words (a .status) (a .rec)) (a .counts) (a .states)
 
-abbrev pub closedWith : Status → List ℕ → List ℕ → List ℕ → ClosedRun
-closedWith status words counts states = record { status = status; words = words; counts = counts; states = states }
-
--- a close on the record, with the run that it leaves
-unfoldable pub closedOver : List ℕ → Closed → ClosedRun
-closedOver words a = closedWith (a .status) (wordsAfter words (a .status) (a .rec)) (a .counts) (a .states)
-
-unfoldable pub closeRun : List ℕ → List ℕ → List ℕ → List Float → ClosedRun
-closeRun words counts states deltas = onRun words (λ s. closedWith s words counts states) (λ r. closedOver words (closeOf r counts states deltas))
+unfoldable pub closeRun : List ℕ → List ℕ → List ℕ → List Float → Closed (List ℕ)
+closeRun words counts states deltas = onRun words (λ s. closed s words counts states) (λ r. closedOver words (closeOf r counts states deltas))

@@ -14,16 +14,17 @@ use Rattle.tiling.specs.declared.Tiling.{Tiling}
 use Rattle.tiling.specs.Tiling.{tiles, inPhase}
 use Rattle.input.specs.Input.{lengthTest}
 use Rattle.job.specs.declared.JobRecord.{JobRecord}
-use Rattle.job.specs.Record.{recordTests, isBack}
+use Rattle.job.specs.declared.TileState.the-variants.{Waiting, Back}
+use Rattle.job.specs.Record.{jobRecord, recordTests, byteOf, isIn}
 
--- the answer, the record, and every slice that it writes
-pub record Closed : Type 0 where
+-- the answer, the record or the run of words that it is, and every slice that it writes
+pub record Closed (R : Type 0) : Type 0 where
   pub status : Status
-  pub rec : JobRecord
+  pub rec : R
   pub counts : List ℕ
   pub states : List ℕ
 
-abbrev pub closed : Status → JobRecord → List ℕ → List ℕ → Closed
+abbrev pub closed : {R : Type 0} → Status → R → List ℕ → List ℕ → Closed R
 closed status rec counts states = record { status = status; rec = rec; counts = counts; states = states }
 
 -- the first i below n with f i, or n
@@ -32,7 +33,7 @@ firstOf f n = upTo (λ i found. cond (eqb found i) (cond (f i) i (suc i)) found)
 
 -- a tile of this phase that is not back
 unfoldable pub isMissing : JobRecord → List ℕ → ℕ → Bool
-isMissing r states t = inPhase (r .plan .tiling) (r .phase) t && not (isBack states t)
+isMissing r states t = inPhase (r .plan .tiling) (r .phase) t && not (isIn Back states t)
 
 -- rows 12, 16, 11 and 15, of a record, `accepted_per_pass`, the tile states and the deltas
 unfoldable pub closeTests : JobRecord → List ℕ → List ℕ → List Float → List Test
@@ -52,26 +53,20 @@ withDeltas T phase deltas n e = upTo (λ t e. let more = e +f getD deltas t nan 
 
 -- the tiles of a phase waiting, each other tile as it was; each of them has a state
 unfoldable pub released : Tiling → ℕ → List ℕ → List ℕ
-released T phase states = table (tiles T) (λ t. let old = getD states t 0 in cond (inPhase T phase t) 0 old)
+released T phase states = table (tiles T) (λ t. let old = getD states t 0 in cond (inPhase T phase t) (byteOf Waiting) old)
 
 -- the record of the next phase, with the error as far as reached
 unfoldable pub nextWith : JobRecord → Float → JobRecord
 nextWith r error =
-    let next : JobRecord = record { plan = r .plan; done = r .done; phase = r .phase + 1; accepted = r .accepted; error = error; finished = false } in
-    let last : JobRecord = record {
-      plan = r .plan;
-      done = r .done + 1;
-      phase = 0;
-      accepted = 0;
-      error = error;
-      finished = eqb (r .accepted) 0 || leb (r .plan .allowed) (r .done + 1);
-    } in
+    let next = jobRecord (r .plan) (r .done) (r .phase + 1) (r .accepted) error false in
+    let ends = eqb (r .accepted) 0 || leb (r .plan .allowed) (r .done + 1) in
+    let last = jobRecord (r .plan) (r .done + 1) 0 0 error ends in
     cond (eqb (r .phase) 3) last next
 
 unfoldable pub nextRecord : JobRecord → List Float → JobRecord
 nextRecord r deltas = nextWith r (withDeltas (r .plan .tiling) (r .phase) deltas (tiles (r .plan .tiling)) (r .error))
 
-unfoldable pub closeOf : JobRecord → List ℕ → List ℕ → List Float → Closed
+unfoldable pub closeOf : JobRecord → List ℕ → List ℕ → List Float → Closed JobRecord
 closeOf r counts states deltas =
     let s = judge (closeTests r counts states deltas) in
     let all = set counts (r .done) (r .accepted) in

@@ -17,7 +17,7 @@ use Rattle.tiling.specs.Tiling.{tiles, phaseOf, tile}
 use Rattle.refine.specs.Refine.{Refinement, refineStatus, refineOf}
 use Rattle.job.specs.declared.JobRecord.{JobRecord}
 use Rattle.job.specs.Record.{pixelsOf, stored}
-use Rattle.job.specs.Words.{encode, decode, wordOver, rewritten}
+use Rattle.job.specs.Words.{runLength, encode, decode, wordOver, rewritten}
 use Rattle.job.specs.Open.{Opening}
 use Rattle.job.specs.Close.{isMissing}
 use Rattle.job.specs.Boundary.{openRun}
@@ -100,16 +100,16 @@ pub record Doubles (r : JobRecord) : Type 0 where
   pub initial : T (fits binary64 (r .plan .initial))
   pub error : T (fits binary64 (r .error))
 
--- a run that a call reads: 12 64-bit numbers, the last one 1 or 0; no place below 12 reads the 0
-pub record TwelveWords (words : List ℕ) : Type 0 where
-  pub twelve : length words ≡ 12
-  pub bits : (i : ℕ) → i < 12 → getD words i 0 < 2 ^ 64
+-- a run that a call reads: 64-bit numbers, the finished word 1 or 0; no place below its length reads the 0
+pub record WholeRun (words : List ℕ) : Type 0 where
+  pub whole : length words ≡ runLength
+  pub bits : (i : ℕ) → i < runLength → getD words i 0 < 2 ^ 64
   pub flag : getD words 11 0 ≤ 1
 
 pub record RoundTrip : Type 0 where
   pub encoded : (r : JobRecord) → Doubles r → decode (encode r) ≡ r
   pub over : (words : List ℕ) (r : JobRecord) → Doubles r → decode (rewritten words r) ≡ r
-  pub unchanged : (words : List ℕ) → TwelveWords words → rewritten words (decode words) ≡ words
+  pub unchanged : (words : List ℕ) → WholeRun words → rewritten words (decode words) ≡ words
   -- the word of an error stays while its float stays, a NaN's too
   pub stays : (old : ℕ) → old < 2 ^ 64 → wordOver old (ofBits binary64 old) ≡ old
   pub reached : (words : List ℕ) (O : Opening) (J : Job) → Reached words O J → Doubles (rec J)

@@ -16,21 +16,23 @@ use Rattle.input.specs.Input.{Input, input}
 use Rattle.input.specs.Valid.{Valid, ValidRefine, ValidOpen}
 use Rattle.input.specs.Rows.{measureRows, refineRows}
 use Rattle.prepare.specs.Prepare.{tilingOf, runOne}
-use Rattle.refine.specs.Refine.{refinement, refineStatus, refineOf}
+use Rattle.refine.specs.Refine.{refinement, refusedStats, refineStatus, refineOf}
 use Rattle.perceived.specs.Perceived.{measureStatus, measureOf}
-use Rattle.tile.specs.Tile.{State, state}
-use Rattle.job.specs.Words.{decode}
+use Rattle.tile.specs.Tile.{State, state, noProgress}
+use Rattle.job.specs.Words.{runLength, decode}
 use Rattle.job.specs.Copy.{Pixels}
-use Rattle.job.specs.Open.{Opening}
+use Rattle.job.specs.Open.{Opening, Opened, opened}
 use Rattle.job.specs.Take.{Taken, taken}
 use Rattle.job.specs.Work.{Worked, worked}
-use Rattle.job.specs.Boundary.{OpenedRun, openedRun, openRun, takeRun, workRun, PutBackRun, putBackWith, putBackRun, ClosedRun, closedWith, closeRun}
+use Rattle.job.specs.PutBack.{PutBack, putBack}
+use Rattle.job.specs.Close.{Closed, closed}
+use Rattle.job.specs.Boundary.{openRun, takeRun, workRun, putBackRun, closeRun}
 use Rattle.job.specs.Valid.{ValidTake, ValidWork, ValidPutBack, ValidClose}
 use Rattle.job.specs.Rows.{openRunRows, takeRows, workRows, putBackRows, closeRows}
 
 -- a run that stands for a record: 'a lent run of 12 64-bit numbers .., finished 1 or 0'
 pub record ValidRun (words : List ℕ) : Type 0 where
-  pub twelve : length words ≡ 12
+  pub whole : length words ≡ runLength
   pub flag : getD words 11 0 ≤ 1
 
 -- ---- each call: what it accepts, what a refusal answers and leaves, and its rows
@@ -38,7 +40,7 @@ pub record ValidRun (words : List ℕ) : Type 0 where
 abbrev pub RefineJudged : Input → ℕ → List Float → List Float → List ℕ → List Float → Type 0
 RefineJudged I passes cpe cpp counts inks =
     Judged refineStatus (ValidRefine I passes (length cpe) (length cpp) (length counts) (length inks))
-    (λ s. refinement (record { number = s .number; place = s .place; passes = 0; «initial_error» = f0; «final_error» = f0 }) (I .indices) cpe cpp counts inks)
+    (λ s. refinement (refusedStats s) (I .indices) cpe cpp counts inks)
     (refineRows I passes (length cpe) (length cpp) (length counts) (length inks))
     (refineOf I passes cpe cpp counts inks)
 
@@ -50,11 +52,11 @@ MeasureJudged width height pixels palette indices params =
 
 abbrev pub OpenJudged : List ℕ → Opening → Type 0
 OpenJudged words O =
-    Judged (λ (a : OpenedRun). a .status)
-    ((length words ≡ 12)
+    Judged (λ (a : Opened (List ℕ)). a .status)
+    ((length words ≡ runLength)
     × ValidOpen (O .input) (O .passes) (tiles (tilingOf (O .input)))
     (length (O .cpe)) (length (O .cpp)) (length (O .counts)) (length (O .states)) (length (O .deltas)) (length (O .inks)))
-    (λ s. openedRun s words (O .cpe) (O .cpp) (O .states) (O .deltas) (O .inks))
+    (λ s. opened s words (O .cpe) (O .cpp) (O .states) (O .deltas) (O .inks))
     (openRunRows words O)
     (openRun words O)
 
@@ -68,21 +70,21 @@ TakeJudged words t image states copy =
 abbrev pub WorkJudged : List ℕ → ℕ → List ℕ → List Float → Pixels → List Float → Type 0
 WorkJudged words t pinned cpp copy inks =
     Judged (λ (a : Worked). a .status) (ValidRun words × ValidWork (decode words) t pinned cpp copy inks)
-    (λ s. worked s (state (copy .cpe) (copy .indices) (record { accepted = 0; delta = f0 })))
+    (λ s. worked s (state (copy .cpe) (copy .indices) noProgress))
     (workRows words t pinned cpp copy inks)
     (workRun words t pinned cpp copy inks)
 
 abbrev pub PutBackJudged : List ℕ → ℕ → Pixels → List ℕ → List Float → State → Type 0
 PutBackJudged words t image states deltas made =
-    Judged (λ (a : PutBackRun). a .status) (ValidRun words × ValidPutBack (decode words) t image states deltas made)
-    (λ s. putBackWith s words image states deltas)
+    Judged (λ (a : PutBack (List ℕ)). a .status) (ValidRun words × ValidPutBack (decode words) t image states deltas made)
+    (λ s. putBack s words image states deltas)
     (putBackRows words t image states deltas made)
     (putBackRun words t image states deltas made)
 
 abbrev pub CloseJudged : List ℕ → List ℕ → List ℕ → List Float → Type 0
 CloseJudged words counts states deltas =
-    Judged (λ (a : ClosedRun). a .status) (ValidRun words × ValidClose (decode words) counts states deltas)
-    (λ s. closedWith s words counts states)
+    Judged (λ (a : Closed (List ℕ)). a .status) (ValidRun words × ValidClose (decode words) counts states deltas)
+    (λ s. closed s words counts states)
     (closeRows words counts states deltas)
     (closeRun words counts states deltas)
 

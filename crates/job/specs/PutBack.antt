@@ -13,19 +13,20 @@ use Rattle.input.specs.Input.{lengthTest}
 use Rattle.moves.specs.declared.Progress.{Progress}
 use Rattle.tile.specs.Tile.{State}
 use Rattle.job.specs.declared.JobRecord.{JobRecord}
-use Rattle.job.specs.Record.{pixelsOf, recordTests, isDue, isOut}
+use Rattle.job.specs.declared.TileState.the-variants.{Out, Back}
+use Rattle.job.specs.Record.{jobRecord, pixelsOf, recordTests, isDue, byteOf, isIn}
 use Rattle.job.specs.Copy.{Pixels, pixels, writtenBack}
 use Rattle.job.specs.Work.{copyTest}
 
--- the answer, the record, and every slice that it writes
-pub record PutBack : Type 0 where
+-- the answer, the record or the run of words that it is, and every slice that it writes
+pub record PutBack (R : Type 0) : Type 0 where
   pub status : Status
-  pub rec : JobRecord
+  pub rec : R
   pub image : Pixels
   pub states : List ℕ
   pub deltas : List Float
 
-abbrev pub putBack : Status → JobRecord → Pixels → List ℕ → List Float → PutBack
+abbrev pub putBack : {R : Type 0} → Status → R → Pixels → List ℕ → List Float → PutBack R
 putBack status rec image states deltas = record { status = status; rec = rec; image = image; states = states; deltas = deltas }
 
 -- 'for a tile that the plane has, a put-back count above its dots or lifting accepted above n', whatever the tile's phase
@@ -46,20 +47,19 @@ putBackTests r t image states deltas made =
     ∷ lengthTest 5 (length deltas) (tiles (r .plan .tiling))
     ∷ lengthTest 6 (length (made .cpe)) (3 * area (region (r .plan .tiling) t))
     ∷ lengthTest 7 (length (made .indices)) (area (region (r .plan .tiling) t))
-    ∷ test (not (isOut states t)) 14 0
+    ∷ test (not (isIn Out states t)) 14 0
     ∷ copyTest r (made .indices)
     ∷ [])
 
 -- 'adds the count'; the delta joins the error at the close, and not before
 unfoldable pub withProgress : JobRecord → Progress → JobRecord
-withProgress r p =
-    record { plan = r .plan; done = r .done; phase = r .phase; accepted = r .accepted + p .accepted; error = r .error; finished = r .finished }
+withProgress r p = jobRecord (r .plan) (r .done) (r .phase) (r .accepted + p .accepted) (r .error) (r .finished)
 
-unfoldable pub putBackOf : JobRecord → ℕ → Pixels → List ℕ → List Float → State → PutBack
+unfoldable pub putBackOf : JobRecord → ℕ → Pixels → List ℕ → List Float → State → PutBack JobRecord
 putBackOf r t image states deltas made =
     let s = judge (putBackTests r t image states deltas made) in
     let back =
     putBack s (withProgress r (made .progress)) (writtenBack (r .plan .tiling) t image (pixels (made .cpe) (made .indices)))
-    (set states t 2) (set deltas t (made .progress .delta)) in
+    (set states t (byteOf Back)) (set deltas t (made .progress .delta)) in
     let kept = putBack s r image states deltas in
     cond (isAccepted s) back kept

@@ -8,14 +8,16 @@ use mathlib.Core.List.{List, [], _∷_, _++_}
 use lib.ListN.{length, getD}
 use lib.Ieee.{Float}
 use Rattle.base.specs.Grid.{area}
+use Rattle.base.specs.Limits.{maxSide, maxInks, maxPasses, maxRadius, cppLength}
 use Rattle.base.specs.Rows.{Row, Line, line, row, rowAt0, rowWhere}
 use Rattle.tiling.specs.Tiling.{tiles, inPhase, tile, region}
 use Rattle.input.specs.Rows.{Outside, row3, row4, row6, buffer, row11, openRows}
 use Rattle.prepare.specs.Prepare.{tilingOf}
 use Rattle.tile.specs.Tile.{State}
 use Rattle.job.specs.declared.JobRecord.{JobRecord}
-use Rattle.job.specs.Record.{pixelsOf}
-use Rattle.job.specs.Words.{decode}
+use Rattle.job.specs.declared.TileState.the-variants.{Waiting, Out}
+use Rattle.job.specs.Record.{pixelsOf, byteOf}
+use Rattle.job.specs.Words.{runLength, decode}
 use Rattle.job.specs.Copy.{Pixels}
 use Rattle.job.specs.Open.{Opening}
 
@@ -23,7 +25,7 @@ use Rattle.job.specs.Open.{Opening}
 
 -- 'A run of another length is 12'
 abbrev pub wrongLength : List ℕ → Line
-wrongLength words = line 0 (length words ≢ 12)
+wrongLength words = line 0 (length words ≢ runLength)
 
 -- 'finished 1 or 0'
 abbrev pub wrongFlag : List ℕ → Line
@@ -31,16 +33,16 @@ wrongFlag words = line 0 (1 < getD words 11 0)
 
 -- 'an odd radius or one outside 2–32'
 abbrev pub WrongRadius : ℕ → Type 0
-WrongRadius R = (R % 2 ≢ 0) ⊎ Outside 2 R 32
+WrongRadius R = (R % 2 ≢ 0) ⊎ Outside 2 R maxRadius
 
 -- 'job record that holds a value outside its limits, .. done passes above allowed, unfinished with none remaining, accepted above n'
 unfoldable pub wrongRecord : JobRecord → List Line
 wrongRecord r =
-    line 0 (Outside 1 (r .plan .tiling .width) 4096 ⊎ (4096 < r .plan .tiling .height))
-    ∷ line 0 (Outside 1 (r .plan .inks) 256)
+    line 0 (Outside 1 (r .plan .tiling .width) maxSide ⊎ (maxSide < r .plan .tiling .height))
+    ∷ line 0 (Outside 1 (r .plan .inks) maxInks)
     ∷ line 0 (WrongRadius (r .plan .tiling .lum))
     ∷ line 0 (WrongRadius (r .plan .tiling .chroma))
-    ∷ line 0 (1000 < r .plan .allowed)
+    ∷ line 0 (maxPasses < r .plan .allowed)
     ∷ line 0 (r .plan .allowed < r .done)
     ∷ line 0 (3 < r .phase)
     ∷ line 0 ((r .finished ≡ false) × (r .plan .allowed ≤ r .done))
@@ -92,13 +94,13 @@ takeRows words t image states copy =
     ∷ buffer 6 (length (copy .cpe)) (3 * area (region (r .plan .tiling) t))
     ∷ buffer 7 (length (copy .indices)) (area (region (r .plan .tiling) t))
     ∷ [] in
-    row12 words [] ∷ row16 r ∷ row13 r t ∷ row3 (pixelsOf r) (length (image .indices)) ∷ row11 buffers ∷ row14 0 states t ∷ []
+    row12 words [] ∷ row16 r ∷ row13 r t ∷ row3 (pixelsOf r) (length (image .indices)) ∷ row11 buffers ∷ row14 (byteOf Waiting) states t ∷ []
 
 unfoldable pub workRows : List ℕ → ℕ → List ℕ → List Float → Pixels → List Float → List Row
 workRows words t pinned cpp copy inks =
     let r = decode words in
     let buffers : List Line =
-    buffer 2 (length cpp) 8450
+    buffer 2 (length cpp) cppLength
     ∷ buffer 6 (length (copy .cpe)) (3 * area (region (r .plan .tiling) t))
     ∷ buffer 7 (length (copy .indices)) (area (region (r .plan .tiling) t))
     ∷ buffer 8 (length inks) (3 * r .plan .inks)
@@ -121,7 +123,7 @@ putBackRows words t image states deltas made =
     ∷ row13 r t
     ∷ row3 (pixelsOf r) (length (image .indices))
     ∷ row11 buffers
-    ∷ row14 1 states t
+    ∷ row14 (byteOf Out) states t
     ∷ row6 (r .plan .inks) (made .indices)
     ∷ []
 

@@ -1,5 +1,5 @@
 -- Run two of demand 3: a newly opened job, and any list of take, put-back and close calls on it, refused ones included (document 01, 'Job calls':
--- 'Each call is given the record that the call before it returned (the first one, open's)'). The job holds the run of 12 numbers that its record is for a C
+-- 'Each call is given the record that the call before it returned (the first one, open's)'). The job holds the run of numbers that its record is for a C
 -- host. What a call answers and leaves is the definition that the contract of the exported function cites (Boundary.antt), accepted or not.
 use Prim.Native.Nat.{ℕ, suc}
 use mathlib.Core.Bool.{Bool, true, false, cond, _&&_}
@@ -56,13 +56,13 @@ unfoldable pub start : List ℕ → Opening → Job
 start words O =
     let a = openRun words O in
     record {
-      words = a .words;
+      words = a .rec;
       image = pixels (a .cpe) (O .input .indices);
       counts = O .counts;
       states = a .states;
       deltas = a .deltas;
       last = λ t. pixels [] [];
-      seen = a .words ∷ [];
+      seen = a .rec ∷ [];
     }
 
 -- the image that a call is lent: indices and cpe
@@ -95,13 +95,13 @@ ran J (putBack t indices cpe states deltas made) =
     record {
       status = a .status;
       job = record {
-        words = a .words;
+        words = a .rec;
         image = pixels (left (J .image .cpe) cpe (a .image .cpe)) (left (J .image .indices) indices (a .image .indices));
         counts = J .counts;
         states = left (J .states) states (a .states);
         deltas = left (J .deltas) deltas (a .deltas);
         last = J .last;
-        seen = a .words ∷ J .seen;
+        seen = a .rec ∷ J .seen;
       };
     }
 ran J (close counts states deltas) =
@@ -109,13 +109,13 @@ ran J (close counts states deltas) =
     record {
       status = a .status;
       job = record {
-        words = a .words;
+        words = a .rec;
         image = J .image;
         counts = left (J .counts) counts (a .counts);
         states = left (J .states) states (a .states);
         deltas = J .deltas;
         last = J .last;
-        seen = a .words ∷ J .seen;
+        seen = a .rec ∷ J .seen;
       };
     }
 

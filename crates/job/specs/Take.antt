@@ -10,7 +10,8 @@ use Rattle.base.specs.Refusal.{Test, test, judge, isAccepted}
 use Rattle.tiling.specs.Tiling.{tiles, region}
 use Rattle.input.specs.Input.{lengthTest}
 use Rattle.job.specs.declared.JobRecord.{JobRecord}
-use Rattle.job.specs.Record.{pixelsOf, recordTests, isDue, isWaiting}
+use Rattle.job.specs.declared.TileState.the-variants.{Waiting, Out}
+use Rattle.job.specs.Record.{pixelsOf, recordTests, isDue, byteOf, isIn}
 use Rattle.job.specs.Copy.{Pixels, copyOf}
 
 -- the answer, the record, and every slice that it writes
@@ -34,12 +35,12 @@ takeTests r t image states copy =
     ∷ lengthTest 4 (length states) (tiles (r .plan .tiling))
     ∷ lengthTest 6 (length (copy .cpe)) (3 * area (region (r .plan .tiling) t))
     ∷ lengthTest 7 (length (copy .indices)) (area (region (r .plan .tiling) t))
-    ∷ test (not (isWaiting states t)) 14 0
+    ∷ test (not (isIn Waiting states t)) 14 0
     ∷ [])
 
 unfoldable pub takeOf : JobRecord → ℕ → Pixels → List ℕ → Pixels → Taken
 takeOf r t image states copy =
     let s = judge (takeTests r t image states copy) in
-    let out = taken s r (set states t 1) (copyOf (r .plan .tiling) t image) in
+    let out = taken s r (set states t (byteOf Out)) (copyOf (r .plan .tiling) t image) in
     let kept = taken s r states copy in
     cond (isAccepted s) out kept

@@ -7,6 +7,7 @@ use mathlib.Core.List.{List}
 use lib.ListN.{length, getD}
 use lib.Ieee.{Float}
 use Rattle.base.specs.Grid.{area}
+use Rattle.base.specs.Limits.{maxSide, maxInks, maxPasses, cppLength}
 use Rattle.eye.specs.Eye.{KernelRadius}
 use Rattle.tiling.specs.Tiling.{tiles, inPhase, tile, region}
 use Rattle.search.specs.Shared.{Named}
@@ -18,13 +19,13 @@ use Rattle.job.specs.Copy.{Pixels, pixels}
 pub record ValidRecord (r : JobRecord) : Type 0 where
   -- 'width w 1–4,096, height h 0–4,096', '1–256 inks', 'Passes allowed: 0–1,000', 'phase 0–3'
   pub width-least : 1 ≤ r .plan .tiling .width
-  pub width-most : r .plan .tiling .width ≤ 4096
-  pub height-most : r .plan .tiling .height ≤ 4096
+  pub width-most : r .plan .tiling .width ≤ maxSide
+  pub height-most : r .plan .tiling .height ≤ maxSide
   pub inks-least : 1 ≤ r .plan .inks
-  pub inks-most : r .plan .inks ≤ 256
+  pub inks-most : r .plan .inks ≤ maxInks
   pub lum : KernelRadius (r .plan .tiling .lum)
   pub chroma : KernelRadius (r .plan .tiling .chroma)
-  pub allowed-most : r .plan .allowed ≤ 1000
+  pub allowed-most : r .plan .allowed ≤ maxPasses
   pub done-most : r .done ≤ r .plan .allowed
   pub phase-most : r .phase ≤ 3
   pub left : r .finished ≡ false → r .done < r .plan .allowed
@@ -54,7 +55,7 @@ pub record ValidWork (r : JobRecord) (t : ℕ) (pinned : List ℕ) (cpp : List F
   pub valid : ValidRecord r
   pub tile-has : t < tiles (r .plan .tiling)
   pub mask-length : 0 < length pinned → length pinned ≡ pixelsOf r
-  pub cpp-length : length cpp ≡ 8450
+  pub cpp-length : length cpp ≡ cppLength
   pub room : ValidCopy r t copy
   pub inks-length : length inks ≡ 3 * r .plan .inks
   pub named : Named (copy .indices) (r .plan .inks)

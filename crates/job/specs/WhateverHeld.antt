@@ -15,8 +15,8 @@ use Rattle.prepare.specs.SameKernels.{SameKernels}
 use Rattle.refine.specs.Refine.{Refinement, refineStatus, refineOf}
 use Rattle.job.specs.Words.{decode}
 use Rattle.job.specs.Copy.{Pixels}
-use Rattle.job.specs.Open.{Opening}
-use Rattle.job.specs.Boundary.{OpenedRun, openRun, workRun}
+use Rattle.job.specs.Open.{Opening, Opened}
+use Rattle.job.specs.Boundary.{openRun, workRun}
 use Rattle.job.specs.Claim.{phases}
 
 -- ---- refine
@@ -47,15 +47,15 @@ pub record AskAlike (O O′ : Opening) : Type 0 where
   pub inks : length (O .inks) ≡ length (O′ .inks)
 
 -- the run has both errors
-pub record SameOpened (T : Tiling) (A A′ : OpenedRun) : Type 0 where
-  pub words : A .words ≡ A′ .words
+pub record SameOpened (T : Tiling) (A A′ : Opened (List ℕ)) : Type 0 where
+  pub words : A .rec ≡ A′ .rec
   pub cpe : A .cpe ≡ A′ .cpe
   pub kernels : SameKernels T (A .cpp) (A′ .cpp)
   pub states : A .states ≡ A′ .states
   pub deltas : A .deltas ≡ A′ .deltas
   pub inks : A .inks ≡ A′ .inks
 
-pub record OpensAlike (T : Tiling) (A A′ : OpenedRun) : Type 0 where
+pub record OpensAlike (T : Tiling) (A A′ : Opened (List ℕ)) : Type 0 where
   pub status : A .status ≡ A′ .status
   pub left : A .status ≡ accepted → SameOpened T A A′
 

@@ -7,6 +7,7 @@ use lib.ListN.{length}
 use lib.Ieee.{Float}
 use Rattle.base.specs.declared.Status.{Status}
 use Rattle.base.specs.Grid.{area}
+use Rattle.base.specs.Limits.{cppLength}
 use Rattle.base.specs.Refusal.{Test, test, judge, isAccepted}
 use Rattle.tiling.specs.Tiling.{tiles, region}
 use Rattle.input.specs.Input.{maskFits, lengthTest, firstUnnamed}
@@ -33,7 +34,7 @@ workTests r t pinned cpp copy inks =
     recordTests r
     ++ (test (not (ltb t (tiles (r .plan .tiling)))) 13 0
     ∷ test (not (maskFits (length pinned) (pixelsOf r))) 4 0
-    ∷ lengthTest 2 (length cpp) 8450
+    ∷ lengthTest 2 (length cpp) cppLength
     ∷ lengthTest 6 (length (copy .cpe)) (3 * area (region (r .plan .tiling) t))
     ∷ lengthTest 7 (length (copy .indices)) (area (region (r .plan .tiling) t))
     ∷ lengthTest 8 (length inks) (3 * r .plan .inks)

@@ -2,6 +2,8 @@
 // The definitions of the calls are in specs/, with the claim that tiles shared among workers give
 // the image of the plain walk (specs/Claim.antt); proofs/ has its proof.
 use tiling::Tiling;
+ghost use mathlib.Core.Path.{_≡_};
+ghost use Rattle.job.specs.Record.{stateOf, byteOf, inState};
 
 // What an open fixes and no call changes.
 pub struct Plan {
@@ -14,7 +16,7 @@ pub struct Plan {
     pub initial: f64,
 }
 
-// Document 01's job record. At the C boundary it is a run of 12 numbers (specs/Words.antt).
+// Document 01's job record. At the C boundary it is a run of numbers (specs/Words.antt).
 pub struct JobRecord {
     pub plan: Plan,
     // Passes done.
@@ -26,4 +28,42 @@ pub struct JobRecord {
     // The final error, as far as reached.
     pub error: f64,
     pub finished: bool,
+}
+
+// What `tile_states` holds of a tile: it waits for a worker, is with one, or is back.
+pub enum TileState {
+    Waiting,
+    Out,
+    Back,
+}
+
+// What a byte says of its tile.
+pub fn tile_state(byte: u8) -> TileState
+    ensures { λ s. ⌜ s ≡ stateOf byte ⌝ }
+{
+    if byte == 0 {
+        return TileState::Waiting;
+    }
+    if byte == 1 {
+        return TileState::Out;
+    }
+    TileState::Back
+}
+
+// The byte that a call writes of a tile.
+pub fn state_byte(state: TileState) -> u8
+    ensures { λ b. ⌜ b ≡ byteOf state ⌝ }
+{
+    match state {
+        TileState::Waiting => 0,
+        TileState::Out => 1,
+        TileState::Back => 2,
+    }
+}
+
+// Whether a byte says that its tile is in a state.
+pub fn is_in(byte: u8, wanted: TileState) -> bool
+    ensures { λ b. ⌜ b ≡ inState wanted byte ⌝ }
+{
+    state_byte(tile_state(byte)) == state_byte(wanted)
 }

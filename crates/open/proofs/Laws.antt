@@ -2,13 +2,14 @@
 use Prim.Native.Nat.{ℕ, _*_, _/_, _≤_}
 use native.Mathlib.Omega.{arith}
 use mathlib.Core.Path.{_≡_, sym, ap, _∙_}
-use mathlib.Core.List.{List}
+use mathlib.Core.List.{List, [], _∷_}
 use lib.Dec.{eqb}
 use lib.ListN.{length, replicate}
 use lib.Ieee.{Float}
 use Rattle.base.specs.declared.Status.{Status}
 use Rattle.base.specs.F64.{f0}
 use Rattle.base.specs.Refusal.{judge, accepted}
+use Rattle.base.proofs.AnswerLaws.{is-accepted, not-accepted}
 use Rattle.base.proofs.Bounds.{image-product}
 use Rattle.eye.specs.declared.Eye.{Eye}
 use Rattle.tiling.specs.declared.Tiling.{Tiling}
@@ -19,8 +20,13 @@ use Rattle.input.proofs.InputLaws.{checked-accepted, input-refused, input-accep
 use Rattle.input.proofs.Validity.{valid-iff, valid-radii, open-passes}
 use Rattle.prepare.specs.Prepare.{ReadyToPrepare, Prepared, tilingOf}
 use Rattle.refine.proofs.Laws.{tiling-is}
+use Rattle.job.specs.declared.JobRecord.{JobRecord}
+use Rattle.job.specs.Record.{plan, jobRecord}
+use Rattle.job.specs.Words.{runTest}
+use Rattle.job.specs.Boundary.{wordsOpened, openedOver, openRun}
 use Rattle.job.specs.Open.{Opening, opened, openTestsOf, firstRecord, openOf}
 use Rattle.job.proofs.Answers.{open-answers}
+use Rattle.words.proofs.RunLaws.{refused, written-ok}
 
 -- ---- the tests
 
@@ -79,17 +85,20 @@ module _ (O : Opening) (s : Status) (e : s ≡ judge (openTestsOf O)) (z : s .nu
 
   pub opens-as : (T : Tiling) (inks cpp cpe : List Float) (error : Float) (states : List ℕ) (deltas : List Float) →
       T ≡ tilingOf (O .input) → Prepared (O .input) (O .cpp) inks cpp cpe error → states ≡ replicate (length (O .states)) 0 → deltas ≡ replicate (length (O .deltas)) f0 →
-      opened s
-      (record {
-        plan = record { tiling = T; inks = length (O .input .palette) / 3; allowed = O .passes; initial = error };
-        done = 0;
-        phase = 0;
-        accepted = 0;
-        error = error;
-        finished = eqb (O .passes) 0;
-      })
-      cpe cpp states deltas inks ≡ openOf O
+      opened s (jobRecord (plan T (length (O .input .palette) / 3) (O .passes) error) 0 0 0 error (eqb (O .passes) 0)) cpe cpp states deltas inks ≡ openOf O
   unfolding firstRecord inkCount
   opens-as T inks cpp cpe error states deltas t p b d =
       let v = valid-open in
       rw (t, p .inks-is, p .cpp-is, p .cpe-is, p .error-is, b, d, v .states-length, v .deltas-length) (open-answers O .made s e z)
+
+-- ---- on a run, which an accepted open writes
+
+module _ (words : List ℕ) (O : Opening) {s : Status} (e : s ≡ judge (runTest words ∷ [])) where
+  pub run-refused : (s .number ≡ 0 → ⊥) → opened s words (O .cpe) (O .cpp) (O .states) (O .deltas) (O .inks) ≡ openRun words O
+  unfolding openRun
+  run-refused f = rw (← e, not-accepted s (refused f))
+
+  pub run-written : s .number ≡ 0 → {a : Status} {r : JobRecord} {cpe cpp : List Float} {states : List ℕ} {deltas inks : List Float} → opened a r cpe cpp states deltas inks ≡ openOf O →
+      {s′ : Status} {words′ : List ℕ} → s′ ≡ a → words′ ≡ wordsOpened words a r → opened s′ words′ cpe cpp states deltas inks ≡ openRun words O
+  unfolding openRun openedOver
+  run-written z q b w = rw (b, w, written-ok words e z, is-accepted, ← q)

@@ -4,8 +4,9 @@ use eye::DbsParams;
 use eye::Eye;
 use job::JobRecord;
 use job::Plan;
-use records::Answer;
+use job::TileState;
 use tiling::Tiling;
+use words::Answer;
 ghost use mathlib.Core.Path.{_≡_};
 ghost use lib.ListN.{length, replicate};
 ghost use Rattle.base.specs.F64.{f0};
@@ -13,7 +14,10 @@ ghost use Rattle.base.specs.Refusal.{judge};
 ghost use Rattle.tiling.specs.Tiling.{tiles};
 ghost use Rattle.input.specs.Input.{input, openTests};
 ghost use Rattle.prepare.specs.Prepare.{tilingOf};
-ghost use Rattle.job.specs.Open.{opening, opened, zeroRecord, openOf};
+ghost use Rattle.job.specs.declared.TileState.the-variants.{Waiting};
+ghost use Rattle.job.specs.Record.{byteOf};
+ghost use Rattle.job.specs.Open.{opening, opened, openOf};
+ghost use Rattle.job.specs.Boundary.{openRun};
 
 // Refusals 1 to 11, and both kernel radii where none applies.
 fn check(
@@ -68,39 +72,12 @@ fn check(
     }
 }
 
-// A refusal, with a record of zeros.
-fn refused(status: Status) -> Answer
-    ensures { λ a. ⌜ (a .status ≡ status) × (a .record ≡ zeroRecord) ⌝ }
-{
-    let tiling = Tiling {
-        width: 0,
-        height: 0,
-        lum: 0,
-        chroma: 0,
-    };
-    let plan = Plan {
-        tiling,
-        inks: 0,
-        allowed: 0,
-        initial: 0.0,
-    };
-    let record = JobRecord {
-        plan,
-        done: 0,
-        phase: 0,
-        accepted: 0,
-        error: 0.0,
-        finished: false,
-    };
-    Answer { status, record }
-}
-
 // Every tile waiting.
 fn clear_states(tile_states: &mut [u8])
-    ensures { λ _. ⌜ now («tile_states» .exit) ≡ replicate (length (now («tile_states» .entry))) 0 ⌝ }
+    ensures { λ _. ⌜ now («tile_states» .exit) ≡ replicate (length (now («tile_states» .entry))) (byteOf Waiting) ⌝ }
 {
     for i in 0..tile_states.len() {
-        tile_states[i] = 0;
+        tile_states[i] = job::state_byte(TileState::Waiting);
     }
 }
 
@@ -113,7 +90,7 @@ fn clear_deltas(deltas: &mut [f64])
 }
 
 // Open a job.
-pub fn open(
+fn open(
     pixels: &[u8],
     width: u64,
     height: u64,
@@ -149,7 +126,7 @@ pub fn open(
     );
     let status = eye.status;
     if status.number != 0 {
-        return refused(status);
+        return words::refused(status);
     }
     let tiling = Tiling {
         width: width as usize,
@@ -185,4 +162,47 @@ pub fn open(
         finished: max_passes == 0,
     };
     Answer { status, record }
+}
+
+// The same on the run that the record is for a C host, which is only written.
+pub fn open_run(
+    record: &mut [u64],
+    pixels: &[u8],
+    width: u64,
+    height: u64,
+    palette: &[u8],
+    indices: &[u8],
+    pinned: &[u8],
+    params: DbsParams,
+    max_passes: u64,
+    cpe: &mut [f64],
+    cpp: &mut [f64],
+    accepted_per_pass: &[u32],
+    tile_states: &mut [u8],
+    deltas: &mut [f64],
+    inks: &mut [f64],
+) -> Status
+    ensures { λ s. ⌜ opened s (now («record» .exit)) (now (cpe .exit)) (now (cpp .exit)) (now («tile_states» .exit)) (now (deltas .exit)) (now (inks .exit)) ≡ openRun (now («record» .entry)) (opening (input width height (now (pixels .entry)) (now (palette .entry)) (now (indices .entry)) (now (pinned .entry)) params) «max_passes» (now (cpe .entry)) (now (cpp .entry)) (now («accepted_per_pass» .entry)) (now («tile_states» .entry)) (now (deltas .entry)) (now (inks .entry))) ⌝ }
+{
+    let run = words::check_run(record.len());
+    if run.number != 0 {
+        return run;
+    }
+    let answer = open(
+        pixels,
+        width,
+        height,
+        palette,
+        indices,
+        pinned,
+        params,
+        max_passes,
+        cpe,
+        cpp,
+        accepted_per_pass,
+        tile_states,
+        deltas,
+        inks,
+    );
+    words::enter(record, answer)
 }

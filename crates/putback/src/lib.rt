@@ -1,8 +1,9 @@
 // Put back: a tile's copy is written over its region, its count added and its delta kept.
 use base::Status;
 use job::JobRecord;
-use records::Answer;
+use job::TileState;
 use tiling::Tiling;
+use words::Answer;
 ghost use mathlib.Core.Path.{_≡_};
 ghost use mathlib.Core.List.{[], _∷_};
 ghost use mathlib.Core.Bool.{not, _&&_, _||_};
@@ -17,12 +18,8 @@ ghost use Rattle.tile.specs.Tile.{state};
 ghost use Rattle.job.specs.Record.{pixelsOf, isDue};
 ghost use Rattle.job.specs.Copy.{pixels, writtenBack};
 ghost use Rattle.job.specs.PutBack.{countTest, putBack, putBackTests, putBackOf};
+ghost use Rattle.job.specs.Boundary.{putBackRun};
 ghost use Rattle.job.specs.Valid.{ValidRecord};
-
-// A tile that is with a worker, and one that is back.
-const OUT: u8 = 1;
-
-const BACK: u8 = 2;
 
 // Whether a tile that the image has brings more moves than its pixels, or lifts the moves of this pass
 // above the image's.
@@ -85,7 +82,7 @@ fn check_put_back(
     let s3 = records::check_image(s2, t, indices.len(), cpe.len(), tile_states.len());
     let s4 = check_deltas(s3, t, deltas.len());
     let s5 = records::check_copy(s4, t, tile as usize, copy_cpe.len(), copy_indices.len());
-    let s6 = records::check_state(s5, tile_states, tile as usize, OUT);
+    let s6 = records::check_state(s5, tile_states, tile as usize, TileState::Out);
     records::check_named(s6, r, copy_indices)
 }
 
@@ -110,7 +107,7 @@ fn write_region(
 }
 
 // Write a copy back over its region, with the count and delta that work answered.
-pub fn put_back(
+fn put_back(
     r: JobRecord,
     tile: u64,
     indices: &mut [u8],
@@ -142,15 +139,44 @@ pub fn put_back(
     let plan = r.plan;
     let i = tile as usize;
     write_region(plan.tiling, i, indices, cpe, copy_cpe, copy_indices);
-    tile_states[i] = BACK;
+    tile_states[i] = job::state_byte(TileState::Back);
     deltas[i] = delta;
-    let record = JobRecord {
-        plan,
-        done: r.done,
-        phase: r.phase,
-        accepted: r.accepted + accepted,
-        error: r.error,
-        finished: r.finished,
-    };
+    let mut record = r;
+    record.accepted = r.accepted + accepted;
     Answer { status, record }
+}
+
+// The same on the run that the record is for a C host.
+pub fn put_back_run(
+    record: &mut [u64],
+    tile: u64,
+    indices: &mut [u8],
+    cpe: &mut [f64],
+    tile_states: &mut [u8],
+    deltas: &mut [f64],
+    copy_cpe: &[f64],
+    copy_indices: &[u8],
+    accepted: u64,
+    delta: f64,
+) -> Status
+    ensures { λ s. ⌜ putBack s (now («record» .exit)) (pixels (now (cpe .exit)) (now (indices .exit))) (now («tile_states» .exit)) (now (deltas .exit)) ≡ putBackRun (now («record» .entry)) tile (pixels (now (cpe .entry)) (now (indices .entry))) (now («tile_states» .entry)) (now (deltas .entry)) (state (now («copy_cpe» .entry)) (now («copy_indices» .entry)) (record { accepted = accepted; delta = delta })) ⌝ }
+{
+    let run = words::read(record);
+    let status = run.status;
+    if status.number != 0 {
+        return status;
+    }
+    let back = put_back(
+        run.record,
+        tile,
+        indices,
+        cpe,
+        tile_states,
+        deltas,
+        copy_cpe,
+        copy_indices,
+        accepted,
+        delta,
+    );
+    words::leave(record, back)
 }

@@ -1,39 +1,24 @@
-// The job record: its tests and those that the calls on a job share, in document 01's order, and the run
-// of 12 numbers that a record is at the C boundary. Every test takes any record: what is multiplied has
-// been found within its limits before.
+// The job record's tests and those that the calls on a job share, in document 01's order. Every test takes
+// any record: what is multiplied has been found within its limits before.
 use base::Rect;
 use base::Status;
 use job::JobRecord;
-use job::Plan;
+use job::TileState;
 use tiling::Tiling;
 ghost use mathlib.Core.Path.{_≡_};
 ghost use mathlib.Core.Bool.{not, _&&_};
 ghost use mathlib.Core.List.{[], _∷_};
 ghost use Prim.Native.Nat.{_*_, _≤_, _<_};
 ghost use lib.Dec.{leb, ltb, eqb};
-ghost use lib.ListN.{length, getD, take};
+ghost use lib.ListN.{length, take};
 ghost use Rattle.base.specs.Grid.{area};
-ghost use Rattle.base.specs.Refusal.{test, judge, accepted, next, judgeFrom};
+ghost use Rattle.base.specs.Limits.{maxSide};
+ghost use Rattle.base.specs.Refusal.{test, accepted, next, judgeFrom};
 ghost use Rattle.input.specs.Input.{lengthTest};
 ghost use Rattle.tiling.specs.Tiling.{Limits, tiles, region};
 ghost use Rattle.tiling.specs.Tiling as spec;
-ghost use Rattle.job.specs.Record.{radiusFits, recordTests, isDue};
+ghost use Rattle.job.specs.Record.{radiusFits, recordTests, isDue, isIn};
 ghost use Rattle.job.specs.Work.{copyTest};
-ghost use Rattle.job.specs.Words.{wordsTests, wordsWith, wordOver, rewritten};
-ghost use Rattle.job.specs.Words as run;
-
-// Numbers in a run.
-const RECORD_LEN: usize = 12;
-
-const MAX_INKS: u64 = 256;
-
-const MAX_PASSES: u64 = 1000;
-
-// A call's answer with the record that it returns.
-pub struct Answer {
-    pub status: Status,
-    pub record: JobRecord,
-}
 
 fn is_radius(radius: usize) -> bool
     ensures { λ r. ⌜ r ≡ radiusFits radius ⌝ }
@@ -63,10 +48,10 @@ fn check_plan(r: JobRecord) -> Status
     let plan = r.plan;
     let t = plan.tiling;
     let s1 = limit(base::ok(), !input::is_size(t.width as u64, t.height as u64));
-    let s2 = limit(s1, !input::is_within(1, plan.inks, MAX_INKS));
+    let s2 = limit(s1, !input::is_within(1, plan.inks, base::MAX_INKS as u64));
     let s3 = limit(s2, !is_radius(t.lum));
     let s4 = limit(s3, !is_radius(t.chroma));
-    limit(s4, plan.allowed > MAX_PASSES)
+    limit(s4, plan.allowed > base::MAX_PASSES as u64)
 }
 
 // Refusal 12 of a record.
@@ -117,7 +102,7 @@ pub fn check_turn(s: Status, r: JobRecord, tile: u64) -> Status
 }
 
 fn rect_size(r: Rect) -> usize
-    requires { ⌜ (r .x0 ≤ r .x1) × (r .x1 ≤ 4096) × (r .y0 ≤ r .y1) × (r .y1 ≤ 4096) ⌝ }
+    requires { ⌜ (r .x0 ≤ r .x1) × (r .x1 ≤ maxSide) × (r .y0 ≤ r .y1) × (r .y1 ≤ maxSide) ⌝ }
     ensures { λ n. ⌜ n ≡ area r ⌝ }
 {
     (r.y1 - r.y0) * (r.x1 - r.x0)
@@ -179,14 +164,14 @@ pub fn check_copy(
 }
 
 // Refusal 14: a tile that is not in this state.
-pub fn check_state(s: Status, tile_states: &[u8], tile: usize, wanted: u8) -> Status
+pub fn check_state(s: Status, tile_states: &[u8], tile: usize, wanted: TileState) -> Status
     requires { ⌜ (s .number ≡ 0 → tile < length (now «tile_states»)) ⌝ }
-    ensures { λ u. ⌜ u ≡ next s (test (not (eqb (getD (now («tile_states» .entry)) tile 0) wanted)) 14 0) ⌝ }
+    ensures { λ u. ⌜ u ≡ next s (test (not (isIn wanted (now («tile_states» .entry)) tile)) 14 0) ⌝ }
 {
     if s.number != 0 {
         return s;
     }
-    base::next(s, tile_states[tile] != wanted, 14, 0)
+    base::next(s, !job::is_in(tile_states[tile], wanted), 14, 0)
 }
 
 // Refusal 6 of a copy.
@@ -196,117 +181,4 @@ pub fn check_named(s: Status, r: JobRecord, copy_indices: &[u8]) -> Status
     let plan = r.plan;
     let place = input::first_unnamed(copy_indices, plan.inks as usize);
     base::next(s, place < copy_indices.len(), 6, place as u64)
-}
-
-// Refusal 12 of a run's length.
-pub fn check_run(words_len: usize) -> Status
-    ensures { λ s. ⌜ s ≡ judge (test (not (eqb «words_len» 12)) 12 0 ∷ []) ⌝ }
-{
-    limit(base::ok(), words_len != RECORD_LEN)
-}
-
-// Refusal 12 of a run that is read: its length, or a finished word that is neither 1 nor 0.
-pub fn check_words(words: &[u64]) -> Status
-    ensures { λ s. ⌜ s ≡ judge (wordsTests (now (words .entry))) ⌝ }
-{
-    let s = limit(base::ok(), words.len() != RECORD_LEN);
-    if s.number != 0 {
-        return s;
-    }
-    limit(s, words[11] > 1)
-}
-
-// The record of a run.
-pub fn decode(words: &[u64]) -> JobRecord
-    requires { ⌜ length (now words) ≡ 12 ⌝ }
-    ensures { λ r. ⌜ r ≡ run.decode (now (words .entry)) ⌝ }
-{
-    let t = Tiling {
-        width: words[0] as usize,
-        height: words[1] as usize,
-        lum: words[3] as usize,
-        chroma: words[4] as usize,
-    };
-    let plan = Plan {
-        tiling: t,
-        inks: words[2],
-        allowed: words[5],
-        initial: bits::to_float(words[9]),
-    };
-    JobRecord {
-        plan,
-        done: words[6],
-        phase: words[7],
-        accepted: words[8],
-        error: bits::to_float(words[10]),
-        finished: words[11] == 1,
-    }
-}
-
-// The word of a float where another stood.
-fn word_over(old: u64, x: f64) -> u64
-    ensures { λ r. ⌜ r ≡ wordOver old x ⌝ }
-{
-    if x == x {
-        return bits::of_float(x);
-    }
-    if bits::is_nan(old) {
-        return old;
-    }
-    bits::of_float(x)
-}
-
-fn copy_words(from: &[u64], to: &mut [u64])
-    requires { ⌜ length (now from) ≡ length (now to) ⌝ }
-    ensures { λ _. ⌜ now (to .exit) ≡ now (from .entry) ⌝ }
-{
-    for i in 0..to.len() {
-        to[i] = from[i];
-    }
-}
-
-// A record with the words of its errors.
-fn write_words(words: &mut [u64], r: JobRecord, initial: u64, error: u64)
-    requires { ⌜ length (now words) ≡ 12 ⌝ }
-    ensures { λ _. ⌜ now (words .exit) ≡ wordsWith initial error r ⌝ }
-{
-    let plan = r.plan;
-    let t = plan.tiling;
-    let run = [
-        t.width as u64,
-        t.height as u64,
-        plan.inks,
-        t.lum as u64,
-        t.chroma as u64,
-        plan.allowed,
-        r.done,
-        r.phase,
-        r.accepted,
-        initial,
-        error,
-        r.finished as u64,
-    ];
-    copy_words(&run, words);
-}
-
-// A run that holds this record.
-pub fn encode(words: &mut [u64], r: JobRecord)
-    requires { ⌜ length (now words) ≡ 12 ⌝ }
-    ensures { λ _. ⌜ now (words .exit) ≡ run.encode r ⌝ }
-{
-    let plan = r.plan;
-    let initial = bits::of_float(plan.initial);
-    let error = bits::of_float(r.error);
-    write_words(words, r, initial, error);
-}
-
-// The run after a call that was given it and returned this record.
-pub fn rewrite(words: &mut [u64], r: JobRecord)
-    requires { ⌜ length (now words) ≡ 12 ⌝ }
-    ensures { λ _. ⌜ now (words .exit) ≡ rewritten (now (words .entry)) r ⌝ }
-{
-    let plan = r.plan;
-    let initial = word_over(words[9], plan.initial);
-    let error = word_over(words[10], r.error);
-    write_words(words, r, initial, error);
 }

@@ -2,6 +2,7 @@
 // parts of the lent copies.
 use base::Status;
 use job::JobRecord;
+use job::TileState;
 use tiling::Tiling;
 ghost use mathlib.Core.Path.{_≡_};
 ghost use Prim.Native.Nat.{_*_, _<_};
@@ -10,12 +11,9 @@ ghost use Rattle.base.specs.Grid.{area};
 ghost use Rattle.base.specs.Refusal.{judge};
 ghost use Rattle.tiling.specs.Tiling.{Limits, tiles, region, image};
 ghost use Rattle.job.specs.Copy.{pixels, copyOf};
+ghost use Rattle.job.specs.Words.{decode};
+ghost use Rattle.job.specs.Boundary.{takeRun};
 ghost use Rattle.job.specs.Take.{taken, takeTests, takeOf};
-
-// A tile that waits for a worker, and one that is with a worker.
-const WAITING: u8 = 0;
-
-const OUT: u8 = 1;
 
 // Refusals 12, 16, 13, 3, 11 and 14.
 fn check_take(
@@ -35,7 +33,7 @@ fn check_take(
     let s2 = records::check_turn(s1, r, tile);
     let s3 = records::check_image(s2, t, indices.len(), cpe.len(), tile_states.len());
     let s4 = records::check_copy(s3, t, tile as usize, copy_cpe.len(), copy_indices.len());
-    records::check_state(s4, tile_states, tile as usize, WAITING)
+    records::check_state(s4, tile_states, tile as usize, TileState::Waiting)
 }
 
 // The region of a tile into both copies.
@@ -59,7 +57,7 @@ fn copy_region(
 }
 
 // Copy a tile's region out and mark the tile out.
-pub fn take(
+fn take(
     r: JobRecord,
     tile: u64,
     indices: &[u8],
@@ -83,6 +81,34 @@ pub fn take(
         copy_cpe,
         copy_indices,
     );
-    tile_states[tile as usize] = OUT;
+    tile_states[tile as usize] = job::state_byte(TileState::Out);
     status
+}
+
+// The same on the run that the record is for a C host, which is only read.
+pub fn take_run(
+    record: &[u64],
+    tile: u64,
+    indices: &[u8],
+    cpe: &[f64],
+    tile_states: &mut [u8],
+    copy_cpe: &mut [f64],
+    copy_indices: &mut [u8],
+) -> Status
+    ensures { λ s. ⌜ taken s (decode (now («record» .entry))) (now («tile_states» .exit)) (pixels (now («copy_cpe» .exit)) (now («copy_indices» .exit))) ≡ takeRun (now («record» .entry)) tile (pixels (now (cpe .entry)) (now (indices .entry))) (now («tile_states» .entry)) (pixels (now («copy_cpe» .entry)) (now («copy_indices» .entry))) ⌝ }
+{
+    let run = words::read(record);
+    let status = run.status;
+    if status.number != 0 {
+        return status;
+    }
+    take(
+        run.record,
+        tile,
+        indices,
+        cpe,
+        tile_states,
+        copy_cpe,
+        copy_indices,
+    )
 }

@@ -8,6 +8,7 @@ ghost use mathlib.Core.List.{[], _∷_};
 ghost use Prim.Native.Nat.{_*_};
 ghost use lib.Dec.{ltb};
 ghost use Rattle.base.specs.F64.{f0};
+ghost use Rattle.base.specs.Limits.{cppLength};
 ghost use Rattle.base.specs.Refusal.{test, judge, judgeFrom, status};
 ghost use Rattle.tiling.specs.Tiling.{tiles};
 ghost use Rattle.input.specs.Input.{maskFits, lengthTest};
@@ -15,10 +16,8 @@ ghost use Rattle.tile.specs.Tile.{state};
 ghost use Rattle.job.specs.Copy.{pixels};
 ghost use Rattle.job.specs.Record.{pixelsOf};
 ghost use Rattle.job.specs.Valid.{ValidRecord};
+ghost use Rattle.job.specs.Boundary.{workRun};
 ghost use Rattle.job.specs.Work.{copyTest, worked, workTests, workOf};
-
-// Values of both kernels: 2 x 65 x 65.
-const CPP_LEN: usize = 8450;
 
 // Moves accepted and the sum of their costs, or a refusal with zeros.
 #[repr(C)]
@@ -32,7 +31,7 @@ pub struct DbsWorked {
 // Refusals 13 and 4, and 11 of the kernels.
 fn check_lent(s: Status, r: JobRecord, tile: u64, pinned_len: usize, cpp_len: usize) -> Status
     requires { ⌜ (s .number ≡ 0 → ValidRecord r) ⌝ }
-    ensures { λ u. ⌜ u ≡ judgeFrom s (test (not (ltb tile (tiles (r .plan .tiling)))) 13 0 ∷ test (not (maskFits «pinned_len» (pixelsOf r))) 4 0 ∷ lengthTest 2 «cpp_len» 8450 ∷ []) ⌝ }
+    ensures { λ u. ⌜ u ≡ judgeFrom s (test (not (ltb tile (tiles (r .plan .tiling)))) 13 0 ∷ test (not (maskFits «pinned_len» (pixelsOf r))) 4 0 ∷ lengthTest 2 «cpp_len» cppLength ∷ []) ⌝ }
 {
     if s.number != 0 {
         return s;
@@ -41,7 +40,7 @@ fn check_lent(s: Status, r: JobRecord, tile: u64, pinned_len: usize, cpp_len: us
     let t = plan.tiling;
     let s1 = base::next(s, !records::has_tile(t, tile), 13, 0);
     let s2 = base::next(s1, !input::is_mask(pinned_len, t.height * t.width), 4, 0);
-    input::next_length(s2, 2, cpp_len, CPP_LEN)
+    input::next_length(s2, 2, cpp_len, base::CPP_LEN)
 }
 
 // Refusal 11 of the ink values, and 6.
@@ -83,7 +82,7 @@ fn check_work(
 }
 
 // A refusal, with no moves.
-pub fn refused(status: Status) -> DbsWorked
+fn refused(status: Status) -> DbsWorked
     ensures { λ w. ⌜ w ≡ record { number = status .number; place = status .place; accepted = 0; delta = f0 } ⌝ }
 {
     DbsWorked {
@@ -95,7 +94,7 @@ pub fn refused(status: Status) -> DbsWorked
 }
 
 // Refine a tile on its copy.
-pub fn work(
+fn work(
     r: JobRecord,
     tile: u64,
     pinned: &[u8],
@@ -131,4 +130,24 @@ pub fn work(
         accepted: made.accepted as u64,
         delta: made.delta,
     }
+}
+
+// The same on the run that the record is for a C host, which is only read.
+pub fn work_run(
+    record: &[u64],
+    tile: u64,
+    pinned: &[u8],
+    cpp: &[f64],
+    copy_cpe: &mut [f64],
+    copy_indices: &mut [u8],
+    inks: &[f64],
+) -> DbsWorked
+    ensures { λ w. ⌜ worked (status (w .number) (w .place)) (state (now («copy_cpe» .exit)) (now («copy_indices» .exit)) (record { accepted = w .accepted; delta = w .delta })) ≡ workRun (now («record» .entry)) tile (now (pinned .entry)) (now (cpp .entry)) (pixels (now («copy_cpe» .entry)) (now («copy_indices» .entry))) (now (inks .entry)) ⌝ }
+{
+    let run = words::read(record);
+    let status = run.status;
+    if status.number != 0 {
+        return refused(status);
+    }
+    work(run.record, tile, pinned, cpp, copy_cpe, copy_indices, inks)
 }

@@ -5,18 +5,18 @@ use native.Mathlib.Omega.{arith}
 use mathlib.Core.Path.{_≡_, refl, sym, ap, _∙_}
 use mathlib.Core.Bool.{not, _&&_}
 use borrow.Author.Needs.{needs}
-use lib.Dec.{ltb}
-use lib.ListN.{length, getD}
+use lib.ListN.{length}
 use Rattle.tiling.specs.Tiling.{inPhase, tiles}
-use Rattle.job.specs.Record.{isBack}
+use Rattle.job.specs.declared.TileState.the-variants.{Back}
+use Rattle.job.specs.Record.{isIn}
 use Rattle.job.specs.Close.{isMissing}
-use Rattle.job.proofs.Validity.{none-first}
+use Rattle.job.proofs.FirstLaws.{none-first}
 use Rattle.close.proofs.FirstLaws.{NoneBefore, none-more, first-is}
 use Rattle.close.proofs.first_missing.Statement.{statement}
 use Rattle.close.proofs.first_missing.Tie as tie
 
 abbrev Inv-loop : tie.InvT-loop
-Inv-loop tile-states t phase i₀ i = (i ≤ length tile-states) × NoneBefore (λ j. inPhase t phase j && not (ltb 1 (getD tile-states j 0))) i
+Inv-loop tile-states t phase i₀ i = (i ≤ length tile-states) × NoneBefore (λ j. inPhase t phase j && not (isIn Back tile-states j)) i
 
 abbrev μ-loop : tie.MeasureT-loop
 μ-loop tile-states t phase i₀ i = length tile-states - i
@@ -31,7 +31,7 @@ is-missing-requires : tie.Need-is-missing-requires Inv-loop μ-loop
 is-missing-requires c κs = search needs
 
 returns : tie.Need-returns Inv-loop μ-loop
-unfolding isMissing isBack
+unfolding isMissing
 returns c =
     let h = c .before .before .before .before .loop .inv in
     sym (first-is _ (tiles (c .before .before .before .before .before .before .before .before .args .r .plan .tiling)) (c .before .before .before .before .loop .i) (omega (arith, c .before .before .before .loop-test .taken, c .before .before .before .before .before .before .before .before .pre .1)) (sym (c .before .is-missing .ensures) ∙ c .if1 .taken) (h .1))
@@ -48,7 +48,7 @@ loop-again c =
     (omega (arith, c .before .before .before .loop-test .taken), rw (add-one (c .before .before .before .before .loop .i)) (none-more _ (c .before .before .before .before .loop .i) (h .1) (sym (c .before .is-missing .ensures) ∙ c .if1 .left)))
 
 returns-2 : tie.Need-returns-2 Inv-loop μ-loop
-unfolding isMissing isBack
+unfolding isMissing
 returns-2 c =
     let h = c .before .loop .inv in
     let e : c .before .loop .i ≡ tiles (c .before .before .before .before .before .args .r .plan .tiling) = omega (arith, c .loop-test .left, h .0, c .before .before .before .before .before .pre .1) in

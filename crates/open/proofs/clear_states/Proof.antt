@@ -17,6 +17,9 @@ abbrev μ-loop : tie.MeasureT-loop
 loop-holds : tie.Need-loop-holds Inv-loop μ-loop
 loop-holds c = (omega arith, refl, refl, fill-none _ _)
 
+state-byte-requires : tie.Need-state-byte-requires Inv-loop μ-loop
+state-byte-requires c κs = search needs
+
 slice-write-tile-states : tie.Need-slice-write-tile-states Inv-loop μ-loop
 slice-write-tile-states c = search needs
 
@@ -28,9 +31,9 @@ loop-less c = search needs
 
 loop-again : tie.Need-loop-again Inv-loop μ-loop
 loop-again c =
-    let h = c .before .loop .inv in
-    let room : c .before .loop .i < length (c .before .before .args .tile-states .now) = omega (arith, c .loop-test .taken, h .1) in
-    (omega (arith, room), refl, simp length-set (h .2), fill-turn 0 _ _ _ _ _ room (h .3) refl)
+    let h = c .before .before .loop .inv in
+    let room : c .before .before .loop .i < length (c .before .before .before .before .args .tile-states .now) = omega (arith, c .before .loop-test .taken, h .1) in
+    (omega (arith, room), refl, simp length-set (h .2), rw (c .state-byte .ensures) (fill-turn 0 _ _ _ _ _ room (h .3) refl))
 
 same-length : tie.Need-same-length Inv-loop μ-loop
 same-length c = c .before .loop .inv .2
@@ -38,7 +41,7 @@ same-length c = c .before .loop .inv .2
 returns : tie.Need-returns Inv-loop μ-loop
 returns c =
     let h = c .before .loop .inv in
-    fill-done (c .before .loop .i) (length (c .before .before .args .tile-states .now)) _ _ _ (omega (arith, h .0, h .1)) (omega (arith, c .loop-test .left, h .1)) refl (h .3) ∙ sym (replicate-table _ _)
+    fill-done (c .before .loop .i) (length (c .before .before .before .args .tile-states .now)) _ _ _ (omega (arith, h .0, h .1)) (omega (arith, c .loop-test .left, h .1)) refl (h .3) ∙ sym (replicate-table _ _)
 
 pub clear-states-spec : {M : Type 1} → statement M
 clear-states-spec =
@@ -47,6 +50,7 @@ clear-states-spec =
     Inv-loop
     μ-loop
     loop-holds
+    state-byte-requires
     slice-write-tile-states
     add-i
     loop-less

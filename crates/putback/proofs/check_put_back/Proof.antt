@@ -7,7 +7,7 @@ use Rattle.base.specs.Refusal.{Passes}
 use Rattle.base.proofs.RefusalLaws.{Numbered}
 use lib.ListN.{length}
 use Rattle.tiling.specs.Tiling.{Limits, tiles}
-use Rattle.job.specs.Record.{pixelsOf, isOut}
+use Rattle.job.specs.Record.{pixelsOf}
 use Rattle.job.specs.Work.{copyTest}
 use Rattle.job.specs.PutBack.{countTest, putBackTests}
 use Rattle.job.proofs.Validity.{equal-of}
@@ -53,7 +53,7 @@ check-named-requires : tie.Need-check-named-requires
 check-named-requires c κs = search needs
 
 returns : tie.Need-returns
-unfolding putBackTests pixelsOf isOut countTest copyTest Numbered
+unfolding putBackTests pixelsOf countTest copyTest Numbered
 returns c = after-record _ _ (omega arith) (rw (c .check-named .ensures, c .before .check-state .ensures, c .before .before .check-copy .ensures, c .before .before .before .check-deltas .ensures, c .before .before .before .before .check-image .ensures, c .before .before .before .before .before .check-turn .ensures, c .before .before .before .before .before .before .check-record .ensures))
 
 pub check-put-back-spec : {M : Type 1} → statement M

@@ -6,6 +6,7 @@ use Rattle.base.specs.declared.Status.{Status}
 use Rattle.base.specs.Refusal.{judge}
 use Rattle.tile.specs.Tile.{State, state}
 use Rattle.tiling.proofs.Sizes.{sizes}
+use Rattle.job.specs.declared.JobRecord.{JobRecord}
 use Rattle.job.specs.Copy.{Pixels, pixels}
 use Rattle.job.specs.Record.{pixelsOf}
 use Rattle.job.specs.PutBack.{putBack, putBackTests, withProgress}
@@ -30,6 +31,20 @@ valid s e z =
     putBack-passes _ _ _ _ _ _ .0
     (putBack-answers (s .args .r) (s .args .tile) (image s) (s .args .tile-states .now) (s .args .deltas .now) (brought s) .passed _ e z)
 
+-- ---- the places that the proofs read: all tests passed, the tests made, and the start
+
+abbrev passed : tie.After-state-byte → tie.Else1
+passed c = c .before .before .before .before .before .before .before .before .before
+
+abbrev start : tie.After-check-put-back → tie.Start
+start c = c .before .before .before .before .before .before .before .before .before .before .before
+
+abbrev record-of : tie.Else1 → JobRecord
+record-of k = start (k .before .before) .args .r
+
+found : (k : tie.Else1) → let s = start (k .before .before) in ValidPutBack (s .args .r) (s .args .tile) (image s) (s .args .tile-states .now) (s .args .deltas .now) (brought s)
+found k = valid (start (k .before .before)) (k .before .before .check-put-back .ensures) (k .if1 .left)
+
 check-put-back-requires : tie.Need-check-put-back-requires
 check-put-back-requires c κs = search needs
 
@@ -47,28 +62,37 @@ same-length-4 c = search needs
 
 returns : tie.Need-returns
 returns c =
-    let s = c .before .before .before .before .before .before .before .before .before .before .before .before .before in
-    putBack-answers (s .args .r) (s .args .tile) (image s) (s .args .tile-states .now) (s .args .deltas .now) (brought s) .kept _ (c .before .before .check-put-back .ensures) (c .if1 .taken)
+    let k = c .before .before in
+    let s = start k in
+    putBack-answers (s .args .r) (s .args .tile) (image s) (s .args .tile-states .now) (s .args .deltas .now) (brought s) .kept _ (k .check-put-back .ensures) (c .if1 .taken)
 
 write-region-requires : tie.Need-write-region-requires
 unfolding pixelsOf
 write-region-requires c κs =
-    let v = valid (c .before .before .before .before .before .before .before .before .before .before .before .before .before .before .before .before) (c .before .before .before .before .before .check-put-back .ensures) (c .before .before .before .if1 .left) in
-    ((limits-of (c .before .before .before .before .before .before .before .before .before .before .before .before .before .before .before .before .args .r) (v .on .valid), v .on .tile-has), ((v .on .cpe-length, v .on .indices-length), (v .room .cpe-length, v .room .indices-length)))
+    let k = c .before .before .before in
+    let v = found k in
+    ((limits-of (record-of k) (v .on .valid), v .on .tile-has), ((v .on .cpe-length, v .on .indices-length), (v .room .cpe-length, v .room .indices-length)))
+
+state-byte-requires : tie.Need-state-byte-requires
+state-byte-requires c κs = search needs
 
 slice-write-tile-states : tie.Need-slice-write-tile-states
-slice-write-tile-states c = let v = valid (c .before .before .before .before .before .before .before .before .before .before .before .before .before .before .before .before .before .before .before .before .before) (c .before .before .before .before .before .before .before .before .before .before .check-put-back .ensures) (c .before .before .before .before .before .before .before .before .if1 .left) in omega (arith, v .on .tile-has, v .on .states-length)
+slice-write-tile-states c = let v = found (passed c) in omega (arith, v .on .tile-has, v .on .states-length)
 
 mul-deltas : tie.Need-mul-deltas
 mul-deltas c =
-    let v = valid (c .before .before .before .before .before .before .before .before .before .before .before .before .before .before .before .before .before .before .before .before .before) (c .before .before .before .before .before .before .before .before .before .before .check-put-back .ensures) (c .before .before .before .before .before .before .before .before .if1 .left) in
-    omega (arith, v .on .tile-has, sizes (c .before .before .before .before .before .before .before .before .before .before .before .before .before .before .before .before .before .before .before .before .before .args .r .plan .tiling) (limits-of (c .before .before .before .before .before .before .before .before .before .before .before .before .before .before .before .before .before .before .before .before .before .args .r) (v .on .valid)) .tiles-limit)
+    let k = passed c in
+    let v = found k in
+    omega (arith, v .on .tile-has, sizes (record-of k .plan .tiling) (limits-of (record-of k) (v .on .valid)) .tiles-limit)
 
 slice-write-deltas : tie.Need-slice-write-deltas
-slice-write-deltas c = let v = valid (c .before .before .before .before .before .before .before .before .before .before .before .before .before .before .before .before .before .before .before .before .before) (c .before .before .before .before .before .before .before .before .before .before .check-put-back .ensures) (c .before .before .before .before .before .before .before .before .if1 .left) in omega (arith, v .on .tile-has, v .deltas-length)
+slice-write-deltas c = let v = found (passed c) in omega (arith, v .on .tile-has, v .deltas-length)
 
-add-t32 : tie.Need-add-t32
-add-t32 c = let v = valid (c .before .before .before .before .before .before .before .before .before .before .before .before .before .before .before .before .before .before .before .before .before .before) (c .before .before .before .before .before .before .before .before .before .before .before .check-put-back .ensures) (c .before .before .before .before .before .before .before .before .before .if1 .left) in omega (arith, v .total-most, few-pixels (c .before .before .before .before .before .before .before .before .before .before .before .before .before .before .before .before .before .before .before .before .before .before .args .r) (v .on .valid))
+add-record : tie.Need-add-record
+add-record c =
+    let k = passed (c .before) in
+    let v = found k in
+    omega (arith, v .total-most, few-pixels (record-of k) (v .on .valid))
 
 same-length-5 : tie.Need-same-length-5
 same-length-5 c = search needs
@@ -85,11 +109,14 @@ same-length-8 c = search needs
 returns-2 : tie.Need-returns-2
 unfolding withProgress
 returns-2 c =
-    let s = c .before .before .before .before .before .before .before .before .before .before .before .before .before .before .before .before .before .before .before .before .before .before in
+    let k = passed (c .before) in
+    let t = k .before .before in
+    let s = start t in
     let a = s .args in
-    ap (λ p. putBack (c .before .before .before .before .before .before .before .before .before .before .before .check-put-back .result) (withProgress (a .r) (record { accepted = a .accepted; delta = a .delta })) p (set (a .tile-states .now) (a .tile) 2) (set (a .deltas .now) (a .tile) (a .delta)))
-    (c .before .before .before .before .before .write-region .ensures)
-    ∙ putBack-answers (a .r) (a .tile) (image s) (a .tile-states .now) (a .deltas .now) (brought s) .made _ (c .before .before .before .before .before .before .before .before .before .before .before .check-put-back .ensures) (c .before .before .before .before .before .before .before .before .before .if1 .left)
+    rw (c .before .state-byte .ensures)
+    (ap (λ p. putBack (t .check-put-back .result) (withProgress (a .r) (record { accepted = a .accepted; delta = a .delta })) p (set (a .tile-states .now) (a .tile) 2) (set (a .deltas .now) (a .tile) (a .delta)))
+    (c .before .before .before .before .before .before .write-region .ensures)
+    ∙ putBack-answers (a .r) (a .tile) (image s) (a .tile-states .now) (a .deltas .now) (brought s) .made _ (t .check-put-back .ensures) (k .if1 .left))
 
 pub put-back-spec : {M : Type 1} → statement M
 put-back-spec =
@@ -102,10 +129,11 @@ put-back-spec =
     same-length-4
     returns
     write-region-requires
+    state-byte-requires
     slice-write-tile-states
     mul-deltas
     slice-write-deltas
-    add-t32
+    add-record
     same-length-5
     same-length-6
     same-length-7

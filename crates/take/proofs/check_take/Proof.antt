@@ -7,7 +7,7 @@ use Rattle.base.specs.Refusal.{Passes}
 use Rattle.base.proofs.RefusalLaws.{Numbered}
 use lib.ListN.{length}
 use Rattle.tiling.specs.Tiling.{Limits, tiles}
-use Rattle.job.specs.Record.{pixelsOf, isWaiting}
+use Rattle.job.specs.Record.{pixelsOf}
 use Rattle.job.specs.Take.{takeTests}
 use Rattle.job.proofs.Validity.{equal-of}
 use Rattle.records.proofs.RecordLaws.{record-limits, after-record, passed, turn-tile}
@@ -43,7 +43,7 @@ unfolding Numbered
 check-state-requires c κs = λ z. let q = image (c .before) (passed _ (_ ∷ _ ∷ []) (omega arith) (c .check-copy .ensures) z .0) in omega (arith, q .0 .1, q .1)
 
 returns : tie.Need-returns
-unfolding takeTests pixelsOf isWaiting Numbered
+unfolding takeTests pixelsOf Numbered
 returns c = after-record _ _ (omega arith) (rw (c .check-state .ensures, c .before .check-copy .ensures, c .before .before .check-image .ensures, c .before .before .before .check-turn .ensures, c .before .before .before .before .check-record .ensures))
 
 pub check-take-spec : {M : Type 1} → statement M

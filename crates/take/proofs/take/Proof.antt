@@ -27,6 +27,17 @@ valid : (s : tie.Start) {u : Status} → u ≡ judge (takeTests (s .args .r) (s 
     ValidTake (s .args .r) (s .args .tile) (image s) (s .args .tile-states .now) (copies s)
 valid s e z = take-passes _ _ _ _ _ .0 (take-answers (s .args .r) (s .args .tile) (image s) (s .args .tile-states .now) (copies s) .passed _ e z)
 
+-- ---- the places that the proofs read: all tests passed, the tests made, and the start
+
+abbrev passed : tie.After-state-byte → tie.Else1
+passed c = c .before .before .before .before .before .before .before .before .before
+
+abbrev start : tie.After-check-take → tie.Start
+start c = c .before .before .before .before .before .before .before .before .before
+
+found : (k : tie.Else1) → ValidTake (start (k .before .before) .args .r) (start (k .before .before) .args .tile) (image (start (k .before .before))) (start (k .before .before) .args .tile-states .now) (copies (start (k .before .before)))
+found k = valid (start (k .before .before)) (k .before .before .check-take .ensures) (k .if1 .left)
+
 check-take-requires : tie.Need-check-take-requires
 check-take-requires c κs = search needs
 
@@ -40,16 +51,23 @@ same-length-3 : tie.Need-same-length-3
 same-length-3 c = search needs
 
 returns : tie.Need-returns
-returns c = let s = c .before .before .before .before .before .before .before .before .before .before .before in take-answers (s .args .r) (s .args .tile) (image s) (s .args .tile-states .now) (copies s) .kept _ (c .before .before .check-take .ensures) (c .if1 .taken)
+returns c =
+    let k = c .before .before in
+    let s = start k in
+    take-answers (s .args .r) (s .args .tile) (image s) (s .args .tile-states .now) (copies s) .kept _ (k .check-take .ensures) (c .if1 .taken)
 
 copy-region-requires : tie.Need-copy-region-requires
 unfolding pixelsOf
 copy-region-requires c κs =
-    let v = valid (c .before .before .before .before .before .before .before .before .before .before .before .before .before .before) (c .before .before .before .before .before .check-take .ensures) (c .before .before .before .if1 .left) in
-    ((limits-of (c .before .before .before .before .before .before .before .before .before .before .before .before .before .before .args .r) (v .on .valid), v .on .tile-has), ((v .on .cpe-length, v .on .indices-length), (v .room .cpe-length, v .room .indices-length)))
+    let k = c .before .before .before in
+    let v = found k in
+    ((limits-of (start (k .before .before) .args .r) (v .on .valid), v .on .tile-has), ((v .on .cpe-length, v .on .indices-length), (v .room .cpe-length, v .room .indices-length)))
+
+state-byte-requires : tie.Need-state-byte-requires
+state-byte-requires c κs = search needs
 
 slice-write-tile-states : tie.Need-slice-write-tile-states
-slice-write-tile-states c = let v = valid (c .before .before .before .before .before .before .before .before .before .before .before .before .before .before .before .before .before .before .before) (c .before .before .before .before .before .before .before .before .before .before .check-take .ensures) (c .before .before .before .before .before .before .before .before .if1 .left) in omega (arith, v .on .tile-has, v .on .states-length)
+slice-write-tile-states c = let v = found (passed c) in omega (arith, v .on .tile-has, v .on .states-length)
 
 same-length-4 : tie.Need-same-length-4
 same-length-4 c = search needs
@@ -62,9 +80,11 @@ same-length-6 c = search needs
 
 returns-2 : tie.Need-returns-2
 returns-2 c =
-    let s = c .before .before .before .before .before .before .before .before .before .before .before .before .before .before .before .before .before .before .before in
-    ap (λ p. taken (c .before .before .before .before .before .before .before .before .before .before .check-take .result) (s .args .r) (set (s .args .tile-states .now) (s .args .tile) 1) p) (c .before .before .before .before .copy-region .ensures)
-    ∙ take-answers (s .args .r) (s .args .tile) (image s) (s .args .tile-states .now) (copies s) .made _ (c .before .before .before .before .before .before .before .before .before .before .check-take .ensures) (c .before .before .before .before .before .before .before .before .if1 .left)
+    let k = passed c in
+    let s = start (k .before .before) in
+    rw (c .state-byte .ensures)
+    (ap (λ p. taken (k .before .before .check-take .result) (s .args .r) (set (s .args .tile-states .now) (s .args .tile) 1) p) (c .before .before .before .before .before .copy-region .ensures)
+    ∙ take-answers (s .args .r) (s .args .tile) (image s) (s .args .tile-states .now) (copies s) .made _ (k .before .before .check-take .ensures) (k .if1 .left))
 
 pub take-spec : {M : Type 1} → statement M
 take-spec =
@@ -76,6 +96,7 @@ take-spec =
     same-length-3
     returns
     copy-region-requires
+    state-byte-requires
     slice-write-tile-states
     same-length-4
     same-length-5
