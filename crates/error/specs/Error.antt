@@ -7,6 +7,7 @@ use Prim.Native.Nat.{ℕ, zero, suc, _+_, _-_, _*_, _/_, _%_, _<_, _≤_, min}
 use lib.ListN.{getD, length}
 use lib.Ieee.{Float}
 use Rattle.base.specs.Loop.{upTo, fromTo, table}
+use Rattle.base.specs.Limits.{maxSide, cppLength}
 use Rattle.base.specs.F64.{_+f_, _*f_, f0}
 use Rattle.color.specs.declared.YyCxCz.{YyCxCz}
 use Rattle.color.specs.Values.{valuesAt, lessOf}
@@ -104,8 +105,8 @@ initialError T G cpe =
 -- an image of w columns and h rows within the limits, lists as long as it asks, and indices that name inks
 pub record SceneFits (w h : ℕ) (G : Scene) : Type 0 where
   pub wide : 1 ≤ w
-  pub width-limit : w ≤ 4096
-  pub height-limit : h ≤ 4096
+  pub width-limit : w ≤ maxSide
+  pub height-limit : h ≤ maxSide
   pub pixels : length (G .pixels) ≡ 3 * (h * w)
   pub indices : length (G .indices) ≡ h * w
   pub mask : 0 < length (G .pinned) → length (G .pinned) ≡ h * w
@@ -122,4 +123,4 @@ pub record PixelFits (w : ℕ) (G : Scene) (x y : ℕ) : Type 0 where
 pub record FieldFits (T : Tiling) (G : Scene) (cpp : List Float) : Type 0 where
   pub limits : Limits T
   pub scene : SceneFits (T .width) (T .height) G
-  pub store : length cpp ≡ 8450
+  pub store : length cpp ≡ cppLength

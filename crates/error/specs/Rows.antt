@@ -5,6 +5,7 @@ use mathlib.Core.List.{List}
 use Prim.Native.Nat.{ℕ, _+_, _-_, _*_, _/_, _%_, _<_, _≤_, min}
 use lib.ListN.{length}
 use lib.Ieee.{Float}
+use Rattle.base.specs.Limits.{maxSide}
 use Rattle.base.specs.Loop.{fromTo}
 use Rattle.color.specs.Inks.{channel}
 use Rattle.cpp.specs.declared.Kernel2D.{Kernel2D}
@@ -21,7 +22,7 @@ errorInRow w G c x y i = channel c (errorAt w G (x + i) y)
 -- the n pixels from (x, y) on
 pub record RowHolds (w : ℕ) (G : Scene) (x y n : ℕ) : Type 0 where
   pub pixel : (i : ℕ) → i < n → PixelFits w G (x + i) y
-  pub right : x + n ≤ 4096
+  pub right : x + n ≤ maxSide
 
 -- ---- lines: row y of the image has three, one a channel, so that line 3y + c is channel c of row y
 

@@ -1,6 +1,10 @@
 // The error of a halftone against its target, `cpe`, which is that error correlated with the kernels,
 // and the initial error: the first half of `dbs_refine` of dbs.rs, with `to_yycxcz` and `correlate`.
 // There is no list of errors: they are computed row by row, once for each channel.
+use base::Index;
+use base::MAX_SIDE;
+use base::saturating_sub;
+use base::smaller;
 use color::YyCxCz;
 use correlate::Lines;
 use cpp::Kernel2D;
@@ -8,6 +12,7 @@ use tiling::Tiling;
 ghost use mathlib.Core.Path.{_≡_};
 ghost use Prim.Native.Nat.{ℕ, _+_, _-_, _*_, _<_, _≤_, min};
 ghost use lib.ListN.{length};
+ghost use Rattle.base.specs.Limits.{maxSide};
 ghost use Rattle.base.specs.Loop.{table};
 ghost use Rattle.base.specs.F64.{_+f_, _*f_, f0};
 ghost use Rattle.color.specs.Lut.{srgbToLinear};
@@ -43,7 +48,7 @@ pub fn add_products(s: YyCxCz, a: YyCxCz, b: YyCxCz) -> YyCxCz
 pub fn error_at(
     lut: &[u64; 256],
     pixels: &[u8],
-    indices: &[u8],
+    indices: &[Index],
     pinned: &[u8],
     inks: &[f64],
     width: usize,
@@ -82,7 +87,7 @@ fn channel_of(v: YyCxCz, c: usize) -> f64
 pub fn channel_errors(
     lut: &[u64; 256],
     pixels: &[u8],
-    indices: &[u8],
+    indices: &[Index],
     pinned: &[u8],
     inks: &[f64],
     width: usize,
@@ -106,7 +111,7 @@ pub fn channel_errors(
 fn add_row(
     lut: &[u64; 256],
     pixels: &[u8],
-    indices: &[u8],
+    indices: &[Index],
     pinned: &[u8],
     inks: &[f64],
     cpp: &[f64],
@@ -137,8 +142,8 @@ fn add_row(
     correlate::spread(
         cpe,
         l,
-        correlate::cut(v, r),
-        correlate::smaller(t.height, v + r + 1),
+        saturating_sub(v, r),
+        smaller(t.height, v + r + 1),
         line,
         &cpp[from..to],
         size,
@@ -151,7 +156,7 @@ fn add_row(
 fn correlate_channel(
     lut: &[u64; 256],
     pixels: &[u8],
-    indices: &[u8],
+    indices: &[Index],
     pinned: &[u8],
     inks: &[f64],
     cpp: &[f64],
@@ -198,7 +203,7 @@ pub fn fill_zero(list: &mut [f64])
 
 // Three lines of w values as one row of pixels, three values a pixel.
 fn weave(row: &mut [f64], lines: &[f64], w: usize)
-    requires { ⌜ (length (now row) ≡ 3 * w) × (length (now lines) ≡ 3 * w) × (w ≤ 4096) ⌝ }
+    requires { ⌜ (length (now row) ≡ 3 * w) × (length (now lines) ≡ 3 * w) × (w ≤ maxSide) ⌝ }
     ensures { λ _. ⌜ now (row .exit) ≡ table (3 * w) (woven w (now (lines .entry))) ⌝ }
 {
     let mut x = 0;
@@ -213,7 +218,7 @@ fn weave(row: &mut [f64], lines: &[f64], w: usize)
 
 // The lines of each row of `cpe` as a row of pixels. `lines` is for a copy of a row's lines.
 fn weave_rows(cpe: &mut [f64], t: Tiling, lines: &mut [f64])
-    requires { ⌜ (1 ≤ t .width) × (t .width ≤ 4096) × (t .height ≤ 4096) ⌝ }
+    requires { ⌜ (1 ≤ t .width) × (t .width ≤ maxSide) × (t .height ≤ maxSide) ⌝ }
     requires { ⌜ (length (now lines) ≡ 3 * t .width) × (length (now cpe) ≡ 3 * (t .height * t .width)) ⌝ }
     ensures { λ _. ⌜ Woven (t .width) (t .height) (now (cpe .entry)) (now (cpe .exit)) ⌝ }
 {
@@ -232,7 +237,7 @@ fn weave_rows(cpe: &mut [f64], t: Tiling, lines: &mut [f64])
 fn field_by_lines(
     lut: &[u64; 256],
     pixels: &[u8],
-    indices: &[u8],
+    indices: &[Index],
     pinned: &[u8],
     inks: &[f64],
     cpp: &[f64],
@@ -296,7 +301,7 @@ fn field_by_lines(
 pub fn initial_field(
     lut: &[u64; 256],
     pixels: &[u8],
-    indices: &[u8],
+    indices: &[Index],
     pinned: &[u8],
     inks: &[f64],
     cpp: &[f64],
@@ -310,8 +315,8 @@ pub fn initial_field(
 {
     let w = t.width;
     let n = 3 * w;
-    let mut line = [0.0f64; 4096];
-    let mut lines = [0.0f64; 12288];
+    let mut line = [0.0f64; MAX_SIDE];
+    let mut lines = [0.0f64; 3 * MAX_SIDE];
     field_by_lines(
         lut,
         pixels,
@@ -330,7 +335,7 @@ pub fn initial_field(
 pub fn initial_error(
     lut: &[u64; 256],
     pixels: &[u8],
-    indices: &[u8],
+    indices: &[Index],
     pinned: &[u8],
     inks: &[f64],
     cpe: &[f64],

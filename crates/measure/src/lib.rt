@@ -1,12 +1,16 @@
 // The perceived error of a halftone: `perceived_error` of dbs.rs, given the blurs. It blurs the error,
 // with no correlation shortcut. Pins play no part. The blurred error is worked out in blocks of at most
 // 128 columns and 64 rows, so that what a block is made of is small.
+use base::Index;
+use base::saturating_sub;
+use base::smaller;
 use correlate::Lines;
 use error::channel_errors;
 ghost use mathlib.Core.Path.{_≡_};
 ghost use mathlib.Core.List.{[]};
 ghost use Prim.Native.Nat.{ℕ, _+_, _-_, _*_, _<_, _≤_, min};
 ghost use lib.ListN.{length};
+ghost use Rattle.base.specs.Limits.{maxSide};
 ghost use Rattle.base.specs.Loop.{table, upTo};
 ghost use Rattle.base.specs.F64.{_+f_};
 ghost use Rattle.color.specs.Lut.{srgbToLinear};
@@ -46,7 +50,7 @@ fn mirror(list: &[f64], out: &mut [f64])
 fn add_row(
     lut: &[u64; 256],
     pixels: &[u8],
-    indices: &[u8],
+    indices: &[Index],
     pinned: &[u8],
     inks: &[f64],
     blur: &[f64],
@@ -67,15 +71,15 @@ fn add_row(
     ensures { λ _. ⌜ Spread (blockLines b) (y - b .y) (min (b .rows) (y + 2 * f .radius + 1 - b .y)) (λ i j. blurRow f (scene (now (pixels .entry)) (now (indices .entry)) (now (pinned .entry)) (now (inks .entry))) (now (blur .entry)) c (b .x + j) (b .y + i) y) (now (out .entry)) (now (out .exit)) ⌝ }
 {
     let reach = 2 * f.radius;
-    let x = correlate::cut(b.x, reach);
+    let x = saturating_sub(b.x, reach);
     channel_errors(lut, pixels, indices, pinned, inks, f.width, c, x, y, line);
     let l = Lines {
         width: b.columns,
         first: 0,
         step: 1,
     };
-    let first = correlate::cut(y, b.y);
-    let past = correlate::smaller(b.rows, y + reach + 1 - b.y);
+    let first = saturating_sub(y, b.y);
+    let past = smaller(b.rows, y + reach + 1 - b.y);
     correlate::spread(
         out,
         l,
@@ -85,7 +89,7 @@ fn add_row(
         taps,
         reach + 1,
         y + reach - b.y,
-        correlate::cut(reach, b.x),
+        saturating_sub(reach, b.x),
     );
 }
 
@@ -93,7 +97,7 @@ fn add_row(
 fn blur_block(
     lut: &[u64; 256],
     pixels: &[u8],
-    indices: &[u8],
+    indices: &[Index],
     pinned: &[u8],
     inks: &[f64],
     blur: &[f64],
@@ -112,8 +116,8 @@ fn blur_block(
     ensures { λ _. ⌜ Blurred f (scene (now (pixels .entry)) (now (indices .entry)) (now (pinned .entry)) (now (inks .entry))) (now (blur .entry)) c b (now (out .exit)) ⌝ }
 {
     error::fill_zero(out);
-    let end = correlate::smaller(f.height, b.y + b.rows);
-    let mut y = correlate::cut(b.y, 2 * f.radius);
+    let end = smaller(f.height, b.y + b.rows);
+    let mut y = saturating_sub(b.y, 2 * f.radius);
     while y < end {
         add_row(
             lut,
@@ -172,7 +176,7 @@ fn add_all(s: f64, list: &[f64]) -> f64
 fn square_in(
     lut: &[u64; 256],
     pixels: &[u8],
-    indices: &[u8],
+    indices: &[Index],
     pinned: &[u8],
     inks: &[f64],
     blur: &[f64],
@@ -212,7 +216,7 @@ fn square_in(
 fn square_block(
     lut: &[u64; 256],
     pixels: &[u8],
-    indices: &[u8],
+    indices: &[Index],
     pinned: &[u8],
     inks: &[f64],
     blur: &[f64],
@@ -229,8 +233,8 @@ fn square_block(
     requires { ⌜ length (now sums) ≡ b .rows ⌝ }
     ensures { λ _. ⌜ now (sums .exit) ≡ table (b .rows) (λ i. upTo (λ j. squareTerm f (scene (now (pixels .entry)) (now (indices .entry)) (now (pinned .entry)) (now (inks .entry))) (now (blur .entry)) c (b .y + i) (b .x + j)) (b .columns) (at (now (sums .entry)) i)) ⌝ }
 {
-    let x = correlate::cut(b.x, 2 * f.radius);
-    let m = correlate::smaller(f.width, b.x + b.columns) - x;
+    let x = saturating_sub(b.x, 2 * f.radius);
+    let m = smaller(f.width, b.x + b.columns) - x;
     let n = b.rows * b.columns;
     let mut line = [0.0f64; 160];
     let mut out = [0.0f64; 8192];
@@ -253,13 +257,13 @@ fn square_block(
 
 // The next block of a band, which begins in column x and row y.
 fn block_at(f: Frame, x: usize, y: usize, rows: usize) -> Block
-    requires { ⌜ (f .width ≤ 4096) × (f .radius ≤ 16) × (x < f .width + 2 * f .radius) ⌝ }
+    requires { ⌜ (f .width ≤ maxSide) × (f .radius ≤ 16) × (x < f .width + 2 * f .radius) ⌝ }
     ensures { λ b. ⌜ b ≡ block x y (min 128 (f .width + 2 * f .radius - x)) rows ⌝ }
 {
     Block {
         x,
         y,
-        columns: correlate::smaller(128, f.width + 2 * f.radius - x),
+        columns: smaller(128, f.width + 2 * f.radius - x),
         rows,
     }
 }
@@ -269,7 +273,7 @@ fn block_at(f: Frame, x: usize, y: usize, rows: usize) -> Block
 fn square_band(
     lut: &[u64; 256],
     pixels: &[u8],
-    indices: &[u8],
+    indices: &[Index],
     pinned: &[u8],
     inks: &[f64],
     blur: &[f64],
@@ -311,7 +315,7 @@ fn square_band(
 fn add_rows(
     lut: &[u64; 256],
     pixels: &[u8],
-    indices: &[u8],
+    indices: &[Index],
     pinned: &[u8],
     inks: &[f64],
     blur: &[f64],
@@ -348,7 +352,7 @@ fn add_rows(
 fn add_band(
     lut: &[u64; 256],
     pixels: &[u8],
-    indices: &[u8],
+    indices: &[Index],
     pinned: &[u8],
     inks: &[f64],
     blur: &[f64],
@@ -386,7 +390,7 @@ fn add_band(
 fn blur_error(
     lut: &[u64; 256],
     pixels: &[u8],
-    indices: &[u8],
+    indices: &[Index],
     pinned: &[u8],
     inks: &[f64],
     blur: &[f64],
@@ -403,7 +407,7 @@ fn blur_error(
     let mut s = 0.0;
     let mut y = 0;
     while y < end {
-        let rows = correlate::smaller(64, end - y);
+        let rows = smaller(64, end - y);
         s = add_band(
             lut,
             pixels,
@@ -427,7 +431,7 @@ fn blur_error(
 fn mirrored_error(
     lut: &[u64; 256],
     pixels: &[u8],
-    indices: &[u8],
+    indices: &[Index],
     pinned: &[u8],
     inks: &[f64],
     blur: &[f64],
@@ -448,7 +452,7 @@ fn mirrored_error(
 fn channel_error(
     lut: &[u64; 256],
     pixels: &[u8],
-    indices: &[u8],
+    indices: &[Index],
     pinned: &[u8],
     inks: &[f64],
     blur: &[f64],
@@ -479,7 +483,7 @@ fn channel_error(
 pub fn perceived(
     lut: &[u64; 256],
     pixels: &[u8],
-    indices: &[u8],
+    indices: &[Index],
     inks: &[f64],
     width: usize,
     height: usize,

@@ -14,14 +14,14 @@ use Rattle.correlate.proofs.correlate_row.Tie as tie
 smaller-requires : tie.Need-smaller-requires
 smaller-requires c κs = search needs
 
-add-cut : tie.Need-add-cut
-add-cut c = search needs
+add-saturating-sub : tie.Need-add-saturating-sub
+add-saturating-sub c = search needs
 
-add-cut-2 : tie.Need-add-cut-2
-add-cut-2 c = search needs
+add-saturating-sub-2 : tie.Need-add-saturating-sub-2
+add-saturating-sub-2 c = search needs
 
-cut-requires : tie.Need-cut-requires
-cut-requires c κs = search needs
+saturating-sub-requires : tie.Need-saturating-sub-requires
+saturating-sub-requires c κs = search needs
 
 smaller-requires-2 : tie.Need-smaller-requires-2
 smaller-requires-2 c κs = search needs
@@ -68,9 +68,9 @@ correlate-row-spec =
     tie.close
     (tie.spec
     smaller-requires
-    add-cut
-    add-cut-2
-    cut-requires
+    add-saturating-sub
+    add-saturating-sub-2
+    saturating-sub-requires
     smaller-requires-2
     by-ones-requires
     same-length

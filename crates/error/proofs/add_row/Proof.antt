@@ -41,8 +41,8 @@ add-to c =
     let f = c .before .before .before .before .before .before .before .before .before .before .before .pre .1 .1 .0 in
     omega (arith, square-most _ (f .most), f .room, f .all)
 
-cut-requires : tie.Need-cut-requires
-cut-requires c κs = search needs
+saturating-sub-requires : tie.Need-saturating-sub-requires
+saturating-sub-requires c κs = search needs
 
 add-smaller : tie.Need-add-smaller
 add-smaller c = search needs
@@ -80,7 +80,7 @@ spread-requires c κs =
     let n = 2 * s .args .k .radius + 1 in
     let kernel = mid-len (s .args .k .from) (s .args .k .from + n * n) (s .args .cpp .now) (omega (arith, square-most _ (k .most), k .room, k .all)) in
     let long = ap (λ (l : List Float). length l) (c .before .before .before .before .before .before .before .channel-errors .ensures) ∙ length-table _ _ in (
-      row-spreads _ (s .args .t .height) _ _ _ _ _ _ _ (f .wide) (f .width-limit) (f .height-limit) (k .most) (here .0) (here .1) (c .before .before .before .cut .ensures) (c .before .before .smaller .ensures) (rooms .1) (omega (arith, kernel)),
+      row-spreads _ (s .args .t .height) _ _ _ _ _ _ _ (f .wide) (f .width-limit) (f .height-limit) (k .most) (here .0) (here .1) (c .before .before .before .saturating-sub .ensures) (c .before .before .smaller .ensures) (rooms .1) (omega (arith, kernel)),
       record { sums = omega (arith, f .width-limit); values = omega (arith, long, rooms .0, f .width-limit); shift = omega (arith, k .most); size = omega (arith, k .most) },
     )
 
@@ -95,7 +95,7 @@ returns c =
     let s = c .before .before .before .before .before .before .before .before .before .before .before .before .before .before .before .before .before .before .before in
     let g = scene (s .args .pixels .now) (s .args .indices .now) (s .args .pinned .now) (s .args .inks .now) in
     row-adds (s .args .t .width) (s .args .t .height) g (s .args .cpp .now) (s .args .k) (s .args .c) (s .pre .1 .1 .0) (s .args .v) _ _ _ _ _
-    (c .before .before .before .before .before .before .before .before .before .before .channel-errors .ensures ∙ ap (λ n. table n (errorInRow (s .args .t .width) g (s .args .c) 0 (s .args .v))) (s .pre .1 .1 .1 .1 .0)) (c .before .before .before .before .before .before .cut .ensures) (c .before .before .before .before .before .smaller .ensures) (c .before .before .spread .ensures)
+    (c .before .before .before .before .before .before .before .before .before .before .channel-errors .ensures ∙ ap (λ n. table n (errorInRow (s .args .t .width) g (s .args .c) 0 (s .args .v))) (s .pre .1 .1 .1 .1 .0)) (c .before .before .before .before .before .before .saturating-sub .ensures) (c .before .before .before .before .before .smaller .ensures) (c .before .before .spread .ensures)
 
 pub add-row-spec : {M : Type 1} → statement M
 add-row-spec =
@@ -106,7 +106,7 @@ add-row-spec =
     add-size
     mul-to
     add-to
-    cut-requires
+    saturating-sub-requires
     add-smaller
     add-smaller-2
     smaller-requires

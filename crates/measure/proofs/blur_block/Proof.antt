@@ -30,22 +30,22 @@ add-smaller c = search needs
 smaller-requires : tie.Need-smaller-requires Inv-loop μ-loop
 smaller-requires c κs = search needs
 
-mul-cut : tie.Need-mul-cut Inv-loop μ-loop
-mul-cut c = search needs
+mul-saturating-sub : tie.Need-mul-saturating-sub Inv-loop μ-loop
+mul-saturating-sub c = search needs
 
-cut-requires : tie.Need-cut-requires Inv-loop μ-loop
-cut-requires c κs = search needs
+saturating-sub-requires : tie.Need-saturating-sub-requires Inv-loop μ-loop
+saturating-sub-requires c κs = search needs
 
 loop-holds : tie.Need-loop-holds Inv-loop μ-loop
 loop-holds c =
     let s = c .before .before .before .before .before .before .before .before .before .before .before .before .before .before .before .before in
     let zeros = c .before .before .before .before .before .before .fill-zero .ensures ∙ ap (λ n. table n (λ i. f0)) (s .pre .1 .1 .1 .1 .1) in (
-      omega (arith, c .cut .ensures),
-      omega (arith, c .cut .ensures, c .before .before .smaller .ensures, s .pre .1 .1 .1 .0 .bottom),
+      omega (arith, c .saturating-sub .ensures),
+      omega (arith, c .saturating-sub .ensures, c .before .before .smaller .ensures, s .pre .1 .1 .1 .0 .bottom),
       c .before .before .smaller .ensures,
       refl,
       refl,
-      subst (λ y. Spread (blockLines (s .args .b)) 0 (s .args .b .rows) (blurRows (s .args .f) (scene (s .args .pixels .now) (s .args .indices .now) (s .args .pinned .now) (s .args .inks .now)) (s .args .blur .now) (s .args .c) (s .args .b) y) (table (s .args .b .rows * s .args .b .columns) (λ i. f0)) (c .before .before .before .before .before .before .fill-zero .last .0)) (sym (c .cut .ensures))
+      subst (λ y. Spread (blockLines (s .args .b)) 0 (s .args .b .rows) (blurRows (s .args .f) (scene (s .args .pixels .now) (s .args .indices .now) (s .args .pinned .now) (s .args .inks .now)) (s .args .blur .now) (s .args .c) (s .args .b) y) (table (s .args .b .rows * s .args .b .columns) (λ i. f0)) (c .before .before .before .before .before .before .fill-zero .last .0)) (sym (c .saturating-sub .ensures))
           (subst (λ l. Spread (blockLines (s .args .b)) 0 (s .args .b .rows) (blurRows (s .args .f) (scene (s .args .pixels .now) (s .args .indices .now) (s .args .pinned .now) (s .args .inks .now)) (s .args .blur .now) (s .args .c) (s .args .b) (s .args .b .y - 2 * s .args .f .radius)) (table (s .args .b .rows * s .args .b .columns) (λ i. f0)) l) (sym zeros)
           (rows-none (s .args .f) (scene (s .args .pixels .now) (s .args .indices .now) (s .args .pinned .now) (s .args .inks .now)) (s .args .blur .now) (s .args .c) (s .args .b) (s .pre .1 .1 .1 .0) (table (s .args .b .rows * s .args .b .columns) (λ i. f0)))),
     )
@@ -95,8 +95,8 @@ blur-block-spec =
     fill-zero-requires
     add-smaller
     smaller-requires
-    mul-cut
-    cut-requires
+    mul-saturating-sub
+    saturating-sub-requires
     loop-holds
     add-row-requires
     add-y

@@ -10,11 +10,11 @@ use borrow.Author.Needs.{needs}
 use Rattle.measure.proofs.square_block.Statement.{statement}
 use Rattle.measure.proofs.square_block.Tie as tie
 
-mul-cut : tie.Need-mul-cut
-mul-cut c = search needs
+mul-saturating-sub : tie.Need-mul-saturating-sub
+mul-saturating-sub c = search needs
 
-cut-requires : tie.Need-cut-requires
-cut-requires c κs = search needs
+saturating-sub-requires : tie.Need-saturating-sub-requires
+saturating-sub-requires c κs = search needs
 
 add-smaller : tie.Need-add-smaller
 add-smaller c = search needs
@@ -36,7 +36,7 @@ array-borrow-prefix-line c = search needs
 slice-aggregate-square-in : tie.Need-slice-aggregate-square-in
 slice-aggregate-square-in c =
     let s = c .before .before .before .before .before .before .before .before .before .before .before .before .before in
-    sym (length-take-le _ _ (count-most (s .args .f .width) (s .args .b .x) (2 * s .args .f .radius) (s .args .b .columns) _ _ (c .before .before .smaller .ensures) (c .before .before .before .before .cut .ensures) (s .pre .1 .1 .1 .0 .columns) (omega (arith, s .pre .1 .0 .most))))
+    sym (length-take-le _ _ (count-most (s .args .f .width) (s .args .b .x) (2 * s .args .f .radius) (s .args .b .columns) _ _ (c .before .before .smaller .ensures) (c .before .before .before .before .saturating-sub .ensures) (s .pre .1 .1 .1 .0 .columns) (omega (arith, s .pre .1 .0 .most))))
 
 array-borrow-prefix-out : tie.Need-array-borrow-prefix-out
 array-borrow-prefix-out c =
@@ -52,8 +52,8 @@ square-in-requires : tie.Need-square-in-requires
 square-in-requires c κs =
     let s = c .before .before .before .before .before .before .before .before .before .before .before .before .before .before .before in
     let b = s .pre .1 .1 .1 .0 in
-    let count = count-is (s .args .f .width) (s .args .b .x) (2 * s .args .f .radius) (s .args .b .columns) _ _ (c .before .before .before .before .smaller .ensures) (c .before .before .before .before .before .before .cut .ensures) in
-    (s .pre .0, (s .pre .1 .0, (s .pre .1 .1 .0, (b, (length-take-le _ _ (count-most (s .args .f .width) (s .args .b .x) (2 * s .args .f .radius) (s .args .b .columns) _ _ (c .before .before .before .before .smaller .ensures) (c .before .before .before .before .before .before .cut .ensures) (s .pre .1 .1 .1 .0 .columns) (omega (arith, s .pre .1 .0 .most))) ∙ count, length-take-le _ _ (omega (arith, product-le _ _ 64 128 (b .rows) (b .columns))), s .pre .1 .1 .1 .1)))))
+    let count = count-is (s .args .f .width) (s .args .b .x) (2 * s .args .f .radius) (s .args .b .columns) _ _ (c .before .before .before .before .smaller .ensures) (c .before .before .before .before .before .before .saturating-sub .ensures) in
+    (s .pre .0, (s .pre .1 .0, (s .pre .1 .1 .0, (b, (length-take-le _ _ (count-most (s .args .f .width) (s .args .b .x) (2 * s .args .f .radius) (s .args .b .columns) _ _ (c .before .before .before .before .smaller .ensures) (c .before .before .before .before .before .before .saturating-sub .ensures) (s .pre .1 .1 .1 .0 .columns) (omega (arith, s .pre .1 .0 .most))) ∙ count, length-take-le _ _ (omega (arith, product-le _ _ 64 128 (b .rows) (b .columns))), s .pre .1 .1 .1 .1)))))
 
 same-length : tie.Need-same-length
 same-length c = search needs
@@ -65,8 +65,8 @@ pub square-block-spec : {M : Type 1} → statement M
 square-block-spec =
     tie.close
     (tie.spec
-    mul-cut
-    cut-requires
+    mul-saturating-sub
+    saturating-sub-requires
     add-smaller
     smaller-requires
     sub-m
