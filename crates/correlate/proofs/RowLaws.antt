@@ -1,5 +1,6 @@
--- Taps added to a part of a row of sums: which sums a tap reaches, one tap, four taps. Assumes nothing.
+-- Taps added to a part of a row of sums: which sums a tap reaches, one tap, four taps, a whole row. Assumes nothing.
 use Prim.Native.Nat.{ℕ, suc, _+_, _-_, _≤_, _<_, min, max}
+use native.Mathlib.Numerals.{add-one}
 use native.Mathlib.Omega.{arith}
 use mathlib.Core.Path.{_≡_, refl, sym, ap, _∙_}
 use mathlib.Core.List.{List}
@@ -13,8 +14,8 @@ use Rattle.base.specs.F64.{_+f_, _*f_}
 use Rattle.base.proofs.Bounds.{lt-or-ge}
 use Rattle.base.proofs.TableLaws.{length-table, getD-table}
 use Rattle.correlate.specs.Correlate.{at, oneTap, fourTaps, tapSum, Changed}
-use Rattle.correlate.proofs.TapLaws.{tap-none, tap-more, tap-before, tap-past, tap-four}
-use Rattle.correlate.proofs.ChangedLaws.{changed-idle, changed-part}
+use Rattle.correlate.proofs.TapLaws.{tap-none, tap-more, tap-before, tap-past, tap-turn, tap-join, tap-four}
+use Rattle.correlate.proofs.ChangedLaws.{changed-idle, changed-then, changed-beside, changed-part}
 
 -- a value of a part
 pub at-mid : (b k : ℕ) (l : List Float) (j : ℕ) → j < k → at (midOf b k l) j ≡ at l (b + j)
@@ -112,3 +113,22 @@ module _ (values taps : List Float) (lead : ℕ) where
       ∙ rw (at-mid a n l j q, value0, value 1 (omega arith), value 2 (omega arith), value 3 (omega arith)))
       (λ i low high s. absurd (omega (arith, low, high)))
       (λ i low high s. absurd (omega (arith, low, high)))
+
+  -- one tap more, on the sums from a to b - 1
+  pub ones-more : (a b first d : ℕ) (l o p : List Float) → first ≤ d → Changed a b (λ i. sum i first d) l o → Changed a b (λ i. sum i d (suc d)) o p → Changed a b (λ i. sum i first (d + 1)) l p
+  ones-more a b first d l o p h q r =
+      let next = add-one d in
+      rw next (changed-then a b (λ i. sum i first d) (λ i. sum i d (suc d)) (λ i. sum i first (suc d)) l o p q r (λ i low high t. tap-turn (at values) (at taps) m lead i first d t h))
+
+  -- all taps: one by one at both ends, and between them four by four, with those that are left
+  pub row-made : (lo hi n d : ℕ) (l₀ l₁ l₂ l₃ l₄ : List Float) → lo ≤ hi → hi ≤ n → d ≤ length taps →
+      Changed 0 lo (λ i. sum i 0 (length taps)) l₀ l₁ → Changed lo hi (λ i. sum i 0 d) l₁ l₂ → Changed lo hi (λ i. sum i d (length taps)) l₂ l₃ → Changed hi n (λ i. sum i 0 (length taps)) l₃ l₄ →
+      Changed 0 n (λ i. sum i 0 (length taps)) l₀ l₄
+  row-made lo hi n d l₀ l₁ l₂ l₃ l₄ order most few left fours rest right =
+      let t = length taps in
+      let f : ℕ → Float → Float = λ i. sum i 0 t in
+      let whole : d + (t - d) ≡ t = omega (arith, few) in
+      changed-beside 0 hi n f l₀ l₃ l₄ (omega arith) most
+      (changed-beside 0 lo hi f l₀ l₁ l₃ (omega arith) order left
+      (changed-then lo hi (λ i. sum i 0 d) (λ i. sum i d t) f l₁ l₂ l₃ fours rest (λ i low high u. rw whole at (tap-join (at values) (at taps) m lead i 0 d (t - d) u (omega arith)))))
+      right

@@ -1,10 +1,14 @@
 // Rows of sums that grow by a row of values, correlated with the rows of a kernel: the inner loops of
 // `correlate` and of `perceived_error` of dbs.rs. Each sum takes its terms one by one in the order of
 // dbs.rs; for speed the sums of a row take them side by side, four taps of the kernel at a time.
+use base::larger;
+use base::saturating_sub;
+use base::smaller;
 ghost use mathlib.Core.Path.{_≡_};
-ghost use Prim.Native.Nat.{ℕ, suc, _+_, _-_, _*_, _<_, _≤_, min, max};
+ghost use Prim.Native.Nat.{ℕ, suc, _+_, _-_, _*_, _<_, _≤_};
 ghost use lib.ListN.{length};
 ghost use Rattle.base.specs.Loop.{table};
+ghost use Rattle.base.specs.F64.{f0};
 ghost use Rattle.correlate.specs.Correlate.{at, oneTap, fourTaps, tapSum, Changed, lineOf, Spread, rowTaps, RowFits, SpreadFits};
 
 // Rows of sums that stand among other lines of a list: row y is line first + step·y.
@@ -14,23 +18,13 @@ pub struct Lines {
     pub step: usize,
 }
 
-// m less r, and 0 where r is larger.
-pub fn cut(m: usize, r: usize) -> usize
-    ensures { λ q. ⌜ q ≡ m - r ⌝ }
+// Where sums start.
+pub fn fill_zero(list: &mut [f64])
+    ensures { λ _. ⌜ now (list .exit) ≡ table (length (now (list .entry))) (λ i. f0) ⌝ }
 {
-    if m < r { 0 } else { m - r }
-}
-
-pub fn smaller(a: usize, b: usize) -> usize
-    ensures { λ q. ⌜ q ≡ min a b ⌝ }
-{
-    if a < b { a } else { b }
-}
-
-pub fn larger(a: usize, b: usize) -> usize
-    ensures { λ q. ⌜ q ≡ max a b ⌝ }
-{
-    if a < b { b } else { a }
+    for i in 0..list.len() {
+        list[i] = 0.0;
+    }
 }
 
 // Each sum grows by a tap times its value.
@@ -71,8 +65,8 @@ fn one_tap(
     requires { ⌜ RowFits (length (now sums)) (length (now values)) lead (length (now taps)) ⌝ }
     ensures { λ _. ⌜ Changed a b (λ i. tapSum (at (now (values .entry))) (at (now (taps .entry))) (length (now (values .entry))) lead i d (suc d)) (now (sums .entry)) (now (sums .exit)) ⌝ }
 {
-    let lo = larger(a, cut(lead, d));
-    let hi = smaller(b, cut(lead + values.len(), d));
+    let lo = larger(a, saturating_sub(lead, d));
+    let hi = smaller(b, saturating_sub(lead + values.len(), d));
     if hi <= lo {
         return;
     }
@@ -145,7 +139,7 @@ pub fn correlate_row(sums: &mut [f64], values: &[f64], taps: &[f64], lead: usize
 {
     let n = sums.len();
     let lo = smaller(lead, n);
-    let hi = smaller(n, cut(lead + values.len() + 1, taps.len()));
+    let hi = smaller(n, saturating_sub(lead + values.len() + 1, taps.len()));
     if hi <= lo {
         by_ones(sums, 0, n, values, taps, lead, 0);
         return;

@@ -4,6 +4,7 @@ use mathlib.Core.List.{List}
 use Prim.Native.Nat.{ℕ, _+_, _*_, _≤_}
 use lib.ListN.{getD, length}
 use lib.Ieee.{Float, nan}
+use Rattle.base.specs.Limits.{maxRadius, cppChroma, cppLength}
 use Rattle.tiling.specs.declared.Tiling.{Tiling}
 use Rattle.cpp.specs.declared.Kernel2D.{Kernel2D}
 
@@ -14,7 +15,7 @@ abbrev pub lumKernel : Tiling → Kernel2D
 lumKernel T = kernel2D 0 (T .lum)
 
 abbrev pub chromaKernel : Tiling → Kernel2D
-chromaKernel T = kernel2D 4225 (T .chroma)
+chromaKernel T = kernel2D cppChroma (T .chroma)
 
 -- columns, and rows, of a kernel
 abbrev pub size : Kernel2D → ℕ
@@ -30,6 +31,6 @@ kernelAt cpp k i j = getD cpp (kernelPlace k i j) nan
 
 -- a kernel within its limits has room in the store
 pub record KernelFits (k : Kernel2D) (cpp : List Float) : Type 0 where
-  pub most : k .radius ≤ 32
-  pub room : k .from + 4225 ≤ length cpp
-  pub all : length cpp ≡ 8450
+  pub most : k .radius ≤ maxRadius
+  pub room : k .from + cppChroma ≤ length cpp
+  pub all : length cpp ≡ cppLength

@@ -1,5 +1,6 @@
 // The kernel store `cpp`: both autocorrelation kernels in one slice of 8,450 values, the luminance
 // kernel from 0 on and the chrominance kernel from 4,225 on. `Kernel2D` and its `at` of dbs.rs.
+use base::CPP_CHROMA;
 use tiling::Tiling;
 ghost use mathlib.Core.Path.{_≡_};
 ghost use Prim.Native.Nat.{_<_};
@@ -25,7 +26,7 @@ pub fn chroma_kernel(t: Tiling) -> Kernel2D
     ensures { λ r. ⌜ r ≡ chromaKernel t ⌝ }
 {
     Kernel2D {
-        from: 4225,
+        from: CPP_CHROMA,
         radius: t.chroma,
     }
 }

@@ -1,20 +1,15 @@
--- Three sums side by side are three sums, a pixel of the image has all that its error is made of, and where the values of pixel i stand. Assumes nothing.
+-- Three sums side by side are three sums, and a pixel of the image has all that its error is made of. Assumes nothing.
 use Prim.Native.Nat.{ℕ, zero, suc, _+_, _*_, _/_, _%_, _<_, _≤_}
 use native.Mathlib.Omega.{arith}
 use native.Mathlib.Nat.{mod-lt, div-lt-iff-lt-mul}
-use mathlib.Core.Path.{_≡_, refl}
+use mathlib.Core.Path.{_≡_, refl, ap, _∙_}
 use mathlib.Core.Logic.{_≢_}
-use mathlib.Core.List.{List}
-use lib.ListN.{length}
 use lib.Ieee.{Float}
 use Rattle.base.proofs.Bounds.{index-lt}
-use Rattle.base.proofs.TableLaws.{length-table}
 use Rattle.color.specs.declared.YyCxCz.{YyCxCz}
 use Rattle.color.specs.Inks.{channel}
-use Rattle.tiling.specs.declared.Tiling.{Tiling}
-use Rattle.correlate.specs.Correlate.{cellAt}
-use Rattle.error.specs.Rows.{woven}
-use Rattle.error.specs.Error.{Scene, SceneFits, PixelFits, fieldAt, fieldValue, fieldOf}
+use Rattle.error.specs.Error.{Scene, SceneFits, PixelFits, errorAt}
+use Rattle.error.specs.Rows.{errorInRow}
 
 -- what is done to each of the three channels is done to channel c
 pub channelwise : (f : Float → Float → Float → Float) (s a b : YyCxCz) (c : ℕ) →
@@ -51,27 +46,7 @@ column-lt w i p = mod-lt i p
 pub row-lt : (w h i : ℕ) → 1 ≤ w → i < h * w → i / w < h
 row-lt w h i p q = (div-lt-iff-lt-mul p) .1 q
 
--- its values y stand in the field side by side
-pub value-here : (T : Tiling) (G : Scene) (cpp : List Float) (i : ℕ) (y : YyCxCz) → ((c : ℕ) → channel c y ≡ fieldAt T G cpp (i % T .width) (i / T .width) c)
-    → (c : ℕ) → c < 3 → channel c y ≡ fieldValue T G cpp (3 * i + c)
-unfolding fieldValue
-value-here T G cpp i y e c h =
-    let q : (3 * i + c) / 3 ≡ i = omega arith in
-    let r : (3 * i + c) % 3 ≡ c = omega arith in
-    rw (q, r) (e c)
-
--- ---- the field
-
-pub length-field : (T : Tiling) (G : Scene) (cpp : List Float) → length (fieldOf T G cpp) ≡ 3 * (T .height * T .width)
-unfolding fieldOf
-length-field T G cpp = length-table _ _
-
--- ---- lines and rows of pixels
-
--- channel c of pixel x of a row of pixels is value x of line c
-pub woven-here : (w : ℕ) (lines : List Float) (x c : ℕ) → c < 3 → cellAt w lines c x ≡ woven w lines (3 * x + c)
-unfolding woven
-woven-here w lines x c h =
-    let q : (3 * x + c) / 3 ≡ x = omega arith in
-    let r : (3 * x + c) % 3 ≡ c = omega arith in
-    rw (q, r)
+-- channel c of the error i columns after pixel (x, y)
+pub in-row : (w : ℕ) (G : Scene) (c x y i : ℕ) (e : YyCxCz) (v : Float) → e ≡ errorAt w G (x + i) y → v ≡ channel c e → v ≡ errorInRow w G c x y i
+unfolding errorInRow
+in-row w G c x y i e v p q = q ∙ ap (channel c) p

@@ -1,12 +1,13 @@
--- The error of a halftone against its target, `cpe` and the initial error: `to_yycxcz`, `correlate` and the first half of `dbs_refine` of dbs.rs
+-- The error of a halftone against its target, and the initial error: `to_yycxcz` and parts of the first half of `dbs_refine` of dbs.rs
 -- (document 01, 'Light, eye and field': 'Floats are f64, operations in the Rust's order, none fused; a sum starts at 0.0 and runs left to right').
 use mathlib.Core.Path.{_≡_}
 use mathlib.Core.Bool.{cond}
 use mathlib.Core.List.{List}
-use Prim.Native.Nat.{ℕ, zero, suc, _+_, _-_, _*_, _/_, _%_, _<_, _≤_, min}
+use Prim.Native.Nat.{ℕ, _+_, _*_, _/_, _%_, _<_, _≤_}
 use lib.ListN.{getD, length}
 use lib.Ieee.{Float}
-use Rattle.base.specs.Loop.{upTo, fromTo, table}
+use Rattle.base.specs.Loop.{upTo}
+use Rattle.base.specs.Limits.{maxSide}
 use Rattle.base.specs.F64.{_+f_, _*f_, f0}
 use Rattle.color.specs.declared.YyCxCz.{YyCxCz}
 use Rattle.color.specs.Values.{valuesAt, lessOf}
@@ -14,9 +15,6 @@ use Rattle.color.specs.YyCxCz.{yycxcz}
 use Rattle.color.specs.Inks.{channel}
 use Rattle.pins.specs.Pins.{pinnedAt, MaskFits}
 use Rattle.tiling.specs.declared.Tiling.{Tiling}
-use Rattle.tiling.specs.Tiling.{Limits}
-use Rattle.cpp.specs.declared.Kernel2D.{Kernel2D}
-use Rattle.cpp.specs.Kernel.{lumKernel, chromaKernel, kernelAt}
 
 -- What errors are made of, each list row by row. Of a scene that fits, as the functions require, no default of a `getD` is read.
 pub record Scene : Type 0 where
@@ -48,39 +46,6 @@ module _ (w : ℕ) (G : Scene) (x y : ℕ) where
   unfoldable pub errorAt : YyCxCz
   errorAt = lessOf halftoneAt targetAt
 
--- ---- `cpe`
-
--- '`gaussian_blur`, `autocorrelate` .. and `correlate` follow': channel c of the error, correlated with kernel k at pixel (x, y)
-module _ (w : ℕ) (G : Scene) (cpp : List Float) (k : Kernel2D) (x y c : ℕ) where
-  -- the term of pixel (u, v), added to s
-  unfoldable pub correlateTerm : ℕ → ℕ → Float → Float
-  correlateTerm v u s = s +f kernelAt cpp k (u + k .radius - x) (v + k .radius - y) *f channel c (errorAt w G u v)
-
-  -- the terms of row v
-  unfoldable pub correlateRow : ℕ → Float → Float
-  correlateRow v s = fromTo (x - k .radius) (min w (x + k .radius + 1)) (correlateTerm v) s
-
-  -- the terms of all rows, of which there are h
-  unfoldable pub correlateAt : ℕ → Float
-  correlateAt h = fromTo (y - k .radius) (min h (y + k .radius + 1)) correlateRow f0
-
--- `cpp[ch]`: Yy takes the luminance kernel, Cx and Cz the chrominance kernel
-unfoldable pub channelKernel : Tiling → ℕ → Kernel2D
-channelKernel T zero = lumKernel T
-channelKernel T (suc c) = chromaKernel T
-
--- channel c at pixel (x, y)
-unfoldable pub fieldAt : Tiling → Scene → List Float → ℕ → ℕ → ℕ → Float
-fieldAt T G cpp x y c = correlateAt (T .width) G cpp (channelKernel T c) x y c (T .height)
-
--- channel i % 3 of pixel i / 3
-unfoldable pub fieldValue : Tiling → Scene → List Float → ℕ → Float
-fieldValue T G cpp i = let p = i / 3 in fieldAt T G cpp (p % T .width) (p / T .width) (i % 3)
-
--- document 01's field: '3n f64, three channels side by side for each dot'
-unfoldable pub fieldOf : Tiling → Scene → List Float → List Float
-fieldOf T G cpp = table (3 * (T .height * T .width)) (fieldValue T G cpp)
-
 -- ---- the initial error, of a list `cpe` as long as the field
 
 -- channel c
@@ -104,8 +69,8 @@ initialError T G cpe =
 -- an image of w columns and h rows within the limits, lists as long as it asks, and indices that name inks
 pub record SceneFits (w h : ℕ) (G : Scene) : Type 0 where
   pub wide : 1 ≤ w
-  pub width-limit : w ≤ 4096
-  pub height-limit : h ≤ 4096
+  pub width-limit : w ≤ maxSide
+  pub height-limit : h ≤ maxSide
   pub pixels : length (G .pixels) ≡ 3 * (h * w)
   pub indices : length (G .indices) ≡ h * w
   pub mask : 0 < length (G .pinned) → length (G .pinned) ≡ h * w
@@ -117,9 +82,3 @@ pub record PixelFits (w : ℕ) (G : Scene) (x y : ℕ) : Type 0 where
   pub index : y * w + x < length (G .indices)
   pub pixel : 3 * (y * w + x) + 2 < length (G .pixels)
   pub ink : 3 * getD (G .indices) (y * w + x) 0 + 2 < length (G .inks)
-
--- that, radii within the limits, and a whole kernel store
-pub record FieldFits (T : Tiling) (G : Scene) (cpp : List Float) : Type 0 where
-  pub limits : Limits T
-  pub scene : SceneFits (T .width) (T .height) G
-  pub store : length cpp ≡ 8450

@@ -20,8 +20,10 @@ use Rattle.bounds.proofs.Within.{zero-within, wider, more, add-within, sub-with
 use Rattle.bounds.proofs.Sums.{rise, upTo-grown, fromTo-grown, table-within}
 use Rattle.inkbounds.specs.Inks.{ColourWithin, inkExponent}
 use Rattle.inkbounds.proofs.Inks.{colour-within, channel-within}
-use Rattle.error.specs.Error.{Scene, SceneFits, halftoneAt, colourAt, targetAt, errorAt, correlateTerm, correlateRow, correlateAt, channelKernel, fieldAt, fieldValue, fieldOf, errorTerm, channelError, initialError}
-use Rattle.error.proofs.Laws.{pixel-fits, column-lt, row-lt, length-field}
+use Rattle.error.specs.Error.{Scene, SceneFits, halftoneAt, colourAt, targetAt, errorAt, errorTerm, channelError, initialError}
+use Rattle.field.specs.Field.{correlateTerm, correlateRow, correlateAt, channelKernel, fieldAt, fieldValue, fieldOf}
+use Rattle.error.proofs.Laws.{pixel-fits, column-lt, row-lt}
+use Rattle.field.proofs.FieldLaws.{length-field}
 use Rattle.errorbounds.specs.Errors.{errorExponent, cpeExponent, fieldTerms, costExponent, KernelWithin, StoreWithin}
 
 -- ---- three values of a list, and differences

@@ -5,6 +5,7 @@ use mathlib.Core.Bool.{Bool, false, not, cond}
 use mathlib.Core.List.{List, [], _∷_}
 use lib.Dec.{T}
 use lib.Ieee.{Float, nan, inf, fin, lt, le}
+use Rattle.base.specs.Limits.{maxRadius}
 use Rattle.base.specs.F64.{_*f_, _/f_, f0, f2}
 use Rattle.base.specs.Refusal.{Test, test, judge, status, isAccepted}
 use Rattle.base.specs.declared.Status.{Status}
@@ -37,7 +38,7 @@ kernelRadius alpha p = 2 * blurRadius (sigmaPx alpha p)
 pub record KernelRadius (R : ℕ) : Type 0 where
   pub even : R % 2 ≡ 0
   pub low : 2 ≤ R
-  pub high : R ≤ 32
+  pub high : R ≤ maxRadius
 
 -- 2.5σ is at most 16 (and so no NaN)
 unfoldable pub Narrow : Float → Type 0

@@ -1,8 +1,8 @@
 // Computes both kernels of each eye of compare/eyes.txt and writes a line for it, to be held to the
 // copy of the Rust: the bits of ppi and of the viewing distance, then the kernel radii and a
 // checksum of all kernel values, or the number and the place of the refusal.
+use base::CPP_CHROMA;
 use eye::DbsParams;
-use kernel::CPP_CHROMA;
 ghost use mathlib.Core.Path.{_≡_};
 ghost use lib.ListN.{length};
 ghost use Rattle.base.specs.Refusal.{judge, accepted};

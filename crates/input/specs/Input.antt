@@ -5,6 +5,7 @@ use mathlib.Core.Bool.{Bool, not, cond, _&&_, _||_}
 use mathlib.Core.List.{List, [], _∷_, _++_}
 use lib.Dec.{leb, ltb, eqb}
 use lib.ListN.{length}
+use Rattle.base.specs.Limits.{maxSide, maxInks, maxPasses, cppLength}
 use Rattle.base.specs.Refusal.{Test, test, judge}
 use Rattle.eye.specs.declared.DbsParams.{DbsParams}
 use Rattle.eye.specs.declared.Eye.{Eye}
@@ -39,7 +40,7 @@ isWithin low x high = leb low x && leb x high
 
 -- 'width w 1–4,096, height h 0–4,096'
 abbrev pub sizeFits : ℕ → ℕ → Bool
-sizeFits w h = isWithin 1 w 4096 && leb h 4096
+sizeFits w h = isWithin 1 w maxSide && leb h maxSide
 
 -- 'Pin mask: no bytes (nothing pinned), or n bytes'
 abbrev pub maskFits : ℕ → ℕ → Bool
@@ -47,7 +48,7 @@ maskFits pinned n = eqb pinned 0 || eqb pinned n
 
 -- '3 × (1–256) bytes'
 abbrev pub paletteFits : ℕ → Bool
-paletteFits palette = eqb (palette % 3) 0 && isWithin 1 (palette / 3) 256
+paletteFits palette = eqb (palette % 3) 0 && isWithin 1 (palette / 3) maxInks
 
 -- the place of the first index that names none of n inks, or the length
 unfoldable pub firstUnnamed : ℕ → List ℕ → ℕ
@@ -86,7 +87,7 @@ checkedOf I = withRadii (judge (inputTests I)) (I .params)
 
 -- row 10: 'passes above 1,000'
 abbrev pub passesTest : ℕ → Test
-passesTest passes = test (ltb 1000 passes) 10 0
+passesTest passes = test (ltb maxPasses passes) 10 0
 
 -- a line of row 11, 'length wrong': a buffer, its length, and the length that it is to have
 abbrev pub lengthTest : ℕ → ℕ → ℕ → Test
@@ -98,7 +99,7 @@ unfoldable pub runTests : ℕ → ℕ → ℕ → ℕ → ℕ → List Test
 runTests passes cpeWanted cpe cpp counts =
     passesTest passes
     ∷ lengthTest 1 cpe cpeWanted  -- '1 field'
-    ∷ lengthTest 2 cpp 8450  -- '2 kernels'
+    ∷ lengthTest 2 cpp cppLength  -- '2 kernels'
     ∷ lengthTest 3 counts passes  -- '3 counts'
     ∷ []
 

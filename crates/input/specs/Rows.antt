@@ -7,6 +7,7 @@ use mathlib.Core.List.{List, [], _∷_, _++_}
 use lib.Dec.{T}
 use lib.ListN.{length, getD}
 use lib.Ieee.{lt}
+use Rattle.base.specs.Limits.{maxSide, maxInks, maxPasses, cppLength}
 use Rattle.base.specs.Rows.{Row, Line, line, row, rowAt0, rowWhere}
 use Rattle.eye.specs.declared.DbsParams.{DbsParams}
 use Rattle.eye.specs.Constants.{alphaLum, alphaChroma, sigmaMin, truncationMax}
@@ -19,7 +20,7 @@ Outside low x high = (x < low) ⊎ (high < x)
 
 -- 'w or h outside its limit': 'width w 1–4,096, height h 0–4,096'
 abbrev pub row1 : ℕ → ℕ → Row
-row1 w h = rowAt0 1 (Outside 1 w 4096 ⊎ (4096 < h))
+row1 w h = rowAt0 1 (Outside 1 w maxSide ⊎ (maxSide < h))
 
 -- 'pixels not 3n', 'indices not n', 'mask neither 0 nor n'
 abbrev pub row2 : ℕ → ℕ → Row
@@ -33,7 +34,7 @@ row4 n pinned = rowAt0 4 ((pinned ≢ 0) × (pinned ≢ n))
 
 -- 'palette not 3 × (1–256) bytes'
 abbrev pub row5 : ℕ → Row
-row5 palette = rowAt0 5 ((inks : ℕ) → 1 ≤ inks → inks ≤ 256 → palette ≢ 3 * inks)
+row5 palette = rowAt0 5 ((inks : ℕ) → 1 ≤ inks → inks ≤ maxInks → palette ≢ 3 * inks)
 
 -- 'first such, from 0': 'an index .. names no ink'; no place below the length reads the 0
 abbrev pub row6 : ℕ → List ℕ → Row
@@ -52,7 +53,7 @@ row9 p = row 9 (line 0 (T (lt (sigmaPx alphaLum p) sigmaMin)) ∷ line 1 (T (lt 
 
 -- 'passes above 1,000'
 abbrev pub row10 : ℕ → Row
-row10 passes = rowAt0 10 (1000 < passes)
+row10 passes = rowAt0 10 (maxPasses < passes)
 
 -- 'length wrong: 1 field, 2 kernels, 3 counts, 4 ledger, 5 deltas, 6 copy field, 7 copy indices, 8 ink values; lowest first'
 abbrev pub buffer : ℕ → ℕ → ℕ → Line
@@ -81,7 +82,7 @@ inputRows I = imageRows I ++ (row4 (pixelCount I) (length (I .pinned)) ∷ inkRo
 -- 'Field: 3n f64', 'Kernel store: 8,450 f64', 'Counts: one u32 per allowed pass', 'ink values (3 f64 per ink)'
 unfoldable pub refineRows : Input → ℕ → ℕ → ℕ → ℕ → ℕ → List Row
 refineRows I passes cpe cpp counts inks =
-    let buffers : List Line = buffer 1 cpe (3 * pixelCount I) ∷ buffer 2 cpp 8450 ∷ buffer 3 counts passes ∷ buffer 8 inks (3 * inkCount I) ∷ [] in
+    let buffers : List Line = buffer 1 cpe (3 * pixelCount I) ∷ buffer 2 cpp cppLength ∷ buffer 3 counts passes ∷ buffer 8 inks (3 * inkCount I) ∷ [] in
     inputRows I ++ (row10 passes ∷ row11 buffers ∷ [])
 
 -- 'ledger (a byte per tile ..) and deltas (an f64 per tile)'
@@ -89,7 +90,7 @@ unfoldable pub openRows : Input → ℕ → ℕ → ℕ → ℕ → ℕ → ℕ 
 openRows I passes tiles cpe cpp counts states deltas inks =
     let buffers : List Line =
     buffer 1 cpe (3 * pixelCount I)
-    ∷ buffer 2 cpp 8450
+    ∷ buffer 2 cpp cppLength
     ∷ buffer 3 counts passes
     ∷ buffer 4 states tiles
     ∷ buffer 5 deltas tiles

@@ -4,6 +4,7 @@ use mathlib.Core.Path.{_≡_}
 use lib.Dec.{T}
 use lib.ListN.{length, getD}
 use lib.Ieee.{Float, nan, inf, fin, lt, le}
+use Rattle.base.specs.Limits.{maxSide, maxInks, maxPasses, cppLength}
 use Rattle.base.specs.F64.{f0}
 use Rattle.eye.specs.declared.DbsParams.{DbsParams}
 use Rattle.eye.specs.Constants.{alphaLum, alphaChroma, sigmaMin, truncationMax}
@@ -31,8 +32,8 @@ pub record ValidEye (p : DbsParams) : Type 0 where
 pub record Valid (I : Input) : Type 0 where
   -- 'width w 1–4,096, height h 0–4,096'
   pub width-least : 1 ≤ I .width
-  pub width-most : I .width ≤ 4096
-  pub height-most : I .height ≤ 4096
+  pub width-most : I .width ≤ maxSide
+  pub height-most : I .height ≤ maxSide
   -- 'Pixels: 3n sRGB bytes. Indices: n bytes. Pin mask: no bytes (nothing pinned), or n bytes'
   pub pixels-length : length (I .pixels) ≡ 3 * pixelCount I
   pub indices-length : length (I .indices) ≡ pixelCount I
@@ -40,7 +41,7 @@ pub record Valid (I : Input) : Type 0 where
   -- 'Palette: 3 bytes for each of 1–256 inks'
   pub palette-length : length (I .palette) ≡ 3 * inkCount I
   pub inks-least : 1 ≤ inkCount I
-  pub inks-most : inkCount I ≤ 256
+  pub inks-most : inkCount I ≤ maxInks
   -- every index names an ink; no place below the length reads the 0
   pub named : (i : ℕ) → i < length (I .indices) → getD (I .indices) i 0 < inkCount I
   pub eye : ValidEye (I .params)
@@ -49,10 +50,10 @@ pub record Valid (I : Input) : Type 0 where
 pub record ValidRefine (I : Input) (passes cpe cpp counts inks : ℕ) : Type 0 where
   pub valid : Valid I
   -- 'Passes allowed: 0–1,000'
-  pub passes-most : passes ≤ 1000
+  pub passes-most : passes ≤ maxPasses
   -- 'Field: 3n f64'; 'Kernel store: 8,450 f64'; 'Counts: one u32 per allowed pass'; 'ink values (3 f64 per ink)'
   pub cpe-length : cpe ≡ 3 * pixelCount I
-  pub cpp-length : cpp ≡ 8450
+  pub cpp-length : cpp ≡ cppLength
   pub counts-length : counts ≡ passes
   pub inks-length : inks ≡ 3 * inkCount I
 

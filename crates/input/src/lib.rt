@@ -2,22 +2,17 @@
 // specs/Input.antt have them. Every function takes any numbers and slices of any length: the size is
 // tested before anything is multiplied. An input is accepted exactly where it is valid
 // (specs/Valid.antt, proofs/Validity.antt).
+use base::CPP_LEN;
+use base::Index;
+use base::MAX_INKS;
+use base::MAX_PASSES;
+use base::MAX_SIDE;
 use base::Status;
 use eye::DbsParams;
 use eye::Eye;
 ghost use mathlib.Core.Path.{_≡_};
 ghost use Rattle.base.specs.Refusal.{judge, accepted, next, judgeFrom};
 ghost use Rattle.input.specs.Input.{isWithin, sizeFits, maskFits, paletteFits, firstUnnamed, imageTests, inkTests, input, checkedOf, lengthTest, runTests, refineRunTests, openRunTests};
-
-// The largest width and height.
-const MAX_SIDE: u64 = 4096;
-
-const MAX_INKS: u64 = 256;
-
-const MAX_PASSES: u64 = 1000;
-
-// Values of both kernels: 2 x 65 x 65.
-const CPP_LEN: usize = 8450;
 
 pub fn is_within(low: u64, x: u64, high: u64) -> bool
     ensures { λ r. ⌜ r ≡ isWithin low x high ⌝ }
@@ -29,7 +24,7 @@ pub fn is_within(low: u64, x: u64, high: u64) -> bool
 pub fn is_size(width: u64, height: u64) -> bool
     ensures { λ r. ⌜ r ≡ sizeFits width height ⌝ }
 {
-    is_within(1, width, MAX_SIDE) && height <= MAX_SIDE
+    is_within(1, width, MAX_SIDE as u64) && height <= MAX_SIDE as u64
 }
 
 // No mask, or a byte for each of n pixels.
@@ -43,7 +38,7 @@ pub fn is_mask(pinned_len: usize, n: usize) -> bool
 fn is_palette(palette_len: usize) -> bool
     ensures { λ r. ⌜ r ≡ paletteFits «palette_len» ⌝ }
 {
-    palette_len % 3 == 0 && is_within(1, palette_len as u64 / 3, MAX_INKS)
+    palette_len % 3 == 0 && is_within(1, palette_len as u64 / 3, MAX_INKS as u64)
 }
 
 // Refusals 1 to 4.
@@ -67,14 +62,14 @@ fn check_image(
     base::next(s3, !is_mask(pinned_len, n), 4, 0)
 }
 
-fn wide(b: u8) -> usize
+fn wide(b: Index) -> usize
     ensures { λ r. ⌜ r ≡ b ⌝ }
 {
     b as usize
 }
 
 // The place of the first index that names none of n inks, or the length.
-pub fn first_unnamed(indices: &[u8], n: usize) -> usize
+pub fn first_unnamed(indices: &[Index], n: usize) -> usize
     ensures { λ r. ⌜ r ≡ firstUnnamed n (now (indices .entry)) ⌝ }
 {
     let mut i = 0;
@@ -88,7 +83,7 @@ pub fn first_unnamed(indices: &[u8], n: usize) -> usize
 }
 
 // Refusals 5 and 6.
-fn check_inks(s: Status, palette_len: usize, indices: &[u8]) -> Status
+fn check_inks(s: Status, palette_len: usize, indices: &[Index]) -> Status
     ensures { λ r. ⌜ r ≡ judgeFrom s (inkTests «palette_len» (now (indices .entry))) ⌝ }
 {
     let place = first_unnamed(indices, palette_len / 3);
@@ -102,7 +97,7 @@ pub fn check_input(
     height: u64,
     pixels: &[u8],
     palette: &[u8],
-    indices: &[u8],
+    indices: &[Index],
     pinned: &[u8],
     params: DbsParams,
 ) -> Eye
@@ -137,7 +132,7 @@ fn check_run(
 ) -> Status
     ensures { λ r. ⌜ r ≡ judgeFrom accepted (runTests «max_passes» «cpe_wanted» «cpe_len» «cpp_len» «accepted_per_pass_len») ⌝ }
 {
-    let s1 = base::next(base::ok(), max_passes > MAX_PASSES, 10, 0);
+    let s1 = base::next(base::ok(), max_passes > MAX_PASSES as u64, 10, 0);
     let s2 = next_length(s1, 1, cpe_len, cpe_wanted);
     let s3 = next_length(s2, 2, cpp_len, CPP_LEN);
     next_length(s3, 3, accepted_per_pass_len, max_passes as usize)

@@ -23,7 +23,8 @@ use Rattle.sweep.specs.Sweep.{grow, addAt, sweepPixel, sweepRow, sweepOf, addKe
 use Rattle.search.specs.Search.{centreOf, besideOf, centres, gaps, toggleCost, swapCost, tryToggle, toggles, partnerOf, trySwap, swaps, evaluateOf}
 use Rattle.moves.specs.Moves.{movedIndices, movedCpe}
 use Rattle.tile.specs.Tile.{State, applied, visitOf, refineRow, refineTile}
-use Rattle.error.specs.Error.{halftoneAt, colourAt, targetAt, errorAt, correlateTerm, correlateRow, correlateAt, channelKernel, fieldAt, fieldValue, fieldOf, errorTerm, channelError, initialError}
+use Rattle.error.specs.Error.{halftoneAt, colourAt, targetAt, errorAt, errorTerm, channelError, initialError}
+use Rattle.field.specs.Field.{correlateTerm, correlateRow, correlateAt, channelKernel, fieldAt, fieldValue, fieldOf}
 use Rattle.input.specs.Input.{pixelCount, inkCount, firstUnnamed, imageTests, inkTests, inputTests, runTests, openRunTests, openTests}
 use Rattle.prepare.specs.Prepare.{tilingOf, inksOf, cppOf, sceneOf, cpeOf, errorOf}
 use Rattle.job.specs.Record.{pixelsOf, jobShared, radiusFits, recordTests, isDue, stateOf, inState}

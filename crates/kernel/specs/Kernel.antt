@@ -4,6 +4,7 @@ use Prim.Native.Nat.{ℕ, _+_, _-_, _*_, _/_, _%_, min}
 use mathlib.Core.List.{List}
 use lib.ListN.{length, getD}
 use lib.Ieee.{Float, nan, neg}
+use Rattle.base.specs.Limits.{cppChroma}
 use Rattle.base.specs.Loop.{upTo, fromTo, table, overwrite}
 use Rattle.base.specs.F64.{_+f_, _-f_, _*f_, _/f_, wholef, f0, f2}
 use Rattle.eye.specs.declared.DbsParams.{DbsParams}
@@ -73,7 +74,7 @@ abbrev pub lumBase : ℕ
 lumBase = 0
 
 abbrev pub chromaBase : ℕ
-chromaBase = 4225
+chromaBase = cppChroma
 
 unfoldable pub eyeKernels : DbsParams → List Float → List Float
 eyeKernels p cpp = overwrite chromaBase (kernelOf (sigmaPx alphaChroma p)) (overwrite lumBase (kernelOf (sigmaPx alphaLum p)) cpp)

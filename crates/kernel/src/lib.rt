@@ -1,19 +1,18 @@
 // The eye-model blurs and their autocorrelation kernels (dbs.rs: Kernel2D, gaussian_blur,
 // autocorrelate). A kernel of radius r is a square table of (2r + 1) x (2r + 1) values, row by row.
+use base::CPP_CHROMA;
 use eye::ALPHA_CHROMA;
 use eye::ALPHA_LUM;
 use eye::DbsParams;
 ghost use mathlib.Core.Path.{_≡_};
 ghost use Prim.Native.Nat.{_+_, _*_, _≤_, _<_};
 ghost use lib.ListN.{length};
+ghost use Rattle.base.specs.Limits.{cppChroma, cppLength};
 ghost use Rattle.base.specs.Loop.{overwrite};
 ghost use Rattle.base.specs.Refusal.{judge, accepted};
 ghost use Rattle.eye.specs.Eye.{Narrow, blurRadius, eyeTests};
 ghost use Rattle.kernel.specs.Kernel.{kernelSide, values, gaussianLine, sumOf, blurOf, gaussianBlur, overlapFrom, overlapTo, rowSum, correlationAt, autocorrelation, kernelOf, eyeKernels};
 ghost use Rattle.kernel.specs.Ready.{Offset, RowMeets};
-
-// The lent kernel store holds both kernels: luminance from 0, chrominance from here.
-pub const CPP_CHROMA: usize = 4225;
 
 // The Gaussian at the distances -r to r, not yet normalised.
 fn gaussian_line(sigma: f64, r: usize, g: &mut [f64])
@@ -146,7 +145,7 @@ fn kernel_into(sigma: f64, r: usize, p: &mut [f64], c: &mut [f64])
 
 // The same into the store, from base on.
 fn place_kernel(sigma: f64, p: &mut [f64], cpp: &mut [f64], base: usize)
-    requires { ⌜ Narrow sigma × (length (now p) ≡ 1089) × (base + 4225 ≤ length (now cpp)) ⌝ }
+    requires { ⌜ Narrow sigma × (length (now p) ≡ 1089) × (base + cppChroma ≤ length (now cpp)) ⌝ }
     ensures { λ _. ⌜ now (cpp .exit) ≡ overwrite base (kernelOf sigma) (now (cpp .entry)) ⌝ }
 {
     let r = eye::blur_radius(sigma);
@@ -160,7 +159,7 @@ fn place_kernel(sigma: f64, p: &mut [f64], cpp: &mut [f64], base: usize)
 
 // Both kernels; p is room for the larger blur.
 fn kernels_with(params: DbsParams, p: &mut [f64], cpp: &mut [f64])
-    requires { ⌜ (judge (eyeTests params) ≡ accepted) × (length (now p) ≡ 1089) × (length (now cpp) ≡ 8450) ⌝ }
+    requires { ⌜ (judge (eyeTests params) ≡ accepted) × (length (now p) ≡ 1089) × (length (now cpp) ≡ cppLength) ⌝ }
     ensures { λ _. ⌜ now (cpp .exit) ≡ eyeKernels params (now (cpp .entry)) ⌝ }
 {
     place_kernel(eye::eye_sigma_px(ALPHA_LUM, params), p, cpp, 0);
@@ -169,7 +168,7 @@ fn kernels_with(params: DbsParams, p: &mut [f64], cpp: &mut [f64])
 
 // Both autocorrelation kernels of an accepted eye into the kernel store; its other cells stay.
 pub fn eye_kernels(params: DbsParams, cpp: &mut [f64])
-    requires { ⌜ (judge (eyeTests params) ≡ accepted) × (length (now cpp) ≡ 8450) ⌝ }
+    requires { ⌜ (judge (eyeTests params) ≡ accepted) × (length (now cpp) ≡ cppLength) ⌝ }
     ensures { λ _. ⌜ now (cpp .exit) ≡ eyeKernels params (now (cpp .entry)) ⌝ }
 {
     let mut p = [0.0f64; 1089];

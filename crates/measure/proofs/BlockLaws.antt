@@ -1,28 +1,27 @@
--- The blurred error block by block: what a row of the image adds to a block, one row more, a whole block. Assumes nothing.
+-- The blurred error block by block: sums of the mirrored blur are the blurred error, blocks make bands, bands the error. Assumes nothing.
 use Prim.Native.Nat.{ℕ, zero, suc, _+_, _*_, _-_, _<_, _≤_, min}
 use native.Mathlib.Omega.{arith}
-use native.Mathlib.Nat.{add-zero, zero-add, one-mul, add-mul, mul-le-mul, mul-le-mul-right}
-use mathlib.Core.Path.{_≡_, refl, sym, ap, subst, _∙_}
-use mathlib.Core.Logic.{⊎-elim}
-use mathlib.Core.List.{List}
-use lib.ListN.{length, take, length-take}
+use native.Mathlib.Nat.{add-mul, mul-le-mul, mul-le-mul-right}
+use mathlib.Core.Path.{_≡_, refl, sym, ap, _∙_}
+use mathlib.Core.List.{List, _++_}
+use lib.ListN.{length, take, drop, length-append, length-drop}
+use lib.Seq.{take-at}
 use lib.Ieee.{Float, nan}
-use borrow.Rule.Slice.PartMut.{midOf, mid-len}
 use Rattle.base.specs.Loop.{upTo, fromTo, table}
 use Rattle.base.specs.F64.{_+f_, _*f_, f0}
-use Rattle.base.proofs.Bounds.{index-lt, product-le, lt-or-ge}
-use Rattle.base.proofs.LoopLaws.{upTo-none, fromTo-none, fromTo-more, fromTo-rel, upTo-same}
+use Rattle.base.proofs.Bounds.{index-lt, product-le}
+use Rattle.base.proofs.LoopLaws.{upTo-none, fromTo-rel, fromTo-same, upTo-same}
 use Rattle.base.proofs.TableLaws.{length-table, getD-table, table-same}
-use Rattle.color.specs.Inks.{channel}
-use Rattle.correlate.specs.Correlate.{at, tapTerm, tapSum, rowTaps, cellAt, Spread, SpreadFits}
-use Rattle.correlate.proofs.RowLaws.{at-mid}
-use Rattle.correlate.proofs.SpreadLaws.{line-end, spread-idle, spread-same, spread-then}
-use Rattle.error.specs.Error.{Scene, errorAt}
-use Rattle.error.specs.Rows.{errorInRow}
+use Rattle.kernel.specs.Kernel.{entry}
+use Rattle.correlate.specs.Correlate.{at}
+use Rattle.error.specs.Error.{Scene}
+use Rattle.block.specs.declared.Block.{Block}
+use Rattle.block.specs.Block.{columnCount, sumTerm, sumRow, sumRows}
+use Rattle.squares.specs.Squares.{mirrored, blockSquares, SquareFits}
 use Rattle.measure.specs.declared.Frame.{Frame}
-use Rattle.measure.specs.declared.Block.{Block}
-use Rattle.measure.specs.Measure.{blurEntry, blurTerm, blurRow, blurredAt, squareTerm, rowError}
-use Rattle.measure.specs.Blocks.{mirrored, block, blockLines, firstColumn, columnCount, blurRows, Blurred, squareOf, lineSquares, BlockFits}
+use Rattle.measure.specs.declared.View.{View}
+use Rattle.measure.specs.Measure.{blurTerm, blurRow, blurredAt, squareTerm, rowError, blurError}
+use Rattle.measure.specs.Blocks.{mirrorOf, blockOf, ViewFits}
 
 -- ---- the blur, last value to first
 
@@ -38,215 +37,89 @@ mirror-place t d e p q =
     mirror-sum : (square side low high t d : ℕ) → d ≤ t → square ≡ side + (t + 1) → high + low ≡ side → square - 1 - (low + d) ≡ high + (t - d)
     mirror-sum square side low high t d p w r = omega (arith, p, w, r)
 
-tap-is : (blur taps : List Float) (r d e : ℕ) → taps ≡ table ((2 * r + 1) * (2 * r + 1)) (mirrored blur ((2 * r + 1) * (2 * r + 1))) → d ≤ 2 * r → e ≤ 2 * r →
-    at taps (e * (2 * r + 1) + d) ≡ blurEntry blur r (2 * r - d) (2 * r - e)
-unfolding mirrored
-tap-is blur taps r d e made p q =
+-- the value in column i and row j of a mirrored square is that in column 2r - i and row 2r - j
+entry-is : (taps : List Float) (r i j : ℕ) → length taps ≡ (2 * r + 1) * (2 * r + 1) → i ≤ 2 * r → j ≤ 2 * r → entry (mirrorOf taps) r i j ≡ at taps ((2 * r - j) * (2 * r + 1) + (2 * r - i))
+unfolding mirrorOf mirrored
+entry-is taps r i j long p q =
     let n = 2 * r + 1 in
-    ap (λ (l : List Float). at l (e * n + d)) made
-    ∙ getD-table (n * n) (mirrored blur (n * n)) (e * n + d) nan (index-lt d e n n (omega (arith, p)) (omega (arith, q)))
-    ∙ ap (at blur) (mirror-place (2 * r) d e p q)
+    getD-table (length taps) (mirrored taps (length taps)) (j * n + i) nan (omega (arith, long, index-lt i j n n (omega (arith, p)) (omega (arith, q))))
+    ∙ ap (λ (k : ℕ). at taps (k - 1 - (j * n + i))) long ∙ ap (at taps) (mirror-place (2 * r) i j p q)
 
--- ---- what row y of the image adds to a block
+-- mirrored twice, a blur is as it was
+back-place : (m i : ℕ) → i < m → m - 1 - (m - 1 - i) ≡ i
+back-place m i h = omega (arith, h)
 
--- ---- columns of a block and of the image: X and R are the block's first column and the blur's reach
+pub blur-back : (blur taps : List Float) (r : ℕ) → taps ≡ table ((2 * r + 1) * (2 * r + 1)) (mirrored blur ((2 * r + 1) * (2 * r + 1))) → (i j : ℕ) → i ≤ 2 * r → j ≤ 2 * r →
+    entry (mirrorOf taps) r i j ≡ entry blur r i j
+unfolding mirrorOf mirrored
+blur-back blur taps r e i j p q =
+    let n = 2 * r + 1 in
+    let m = n * n in
+    let long : length taps ≡ m = ap (λ (l : List Float). length l) e ∙ length-table _ _ in
+    let h : j * n + i < m = index-lt i j n n (omega (arith, p)) (omega (arith, q)) in
+    getD-table (length taps) (mirrored taps (length taps)) (j * n + i) nan (omega (arith, long, h))
+    ∙ ap (λ (k : ℕ). at taps (k - 1 - (j * n + i))) long
+    ∙ ap (λ (l : List Float). at l (m - 1 - (j * n + i))) e ∙ getD-table m (mirrored blur m) (m - 1 - (j * n + i)) nan (omega (arith, h))
+    ∙ ap (at blur) (back-place m (j * n + i) h)
 
-pub lt-left : (q a b : ℕ) → q < min a b → q < a
-lt-left q a b h = omega (arith, h)
+-- ---- blurs with the same values give the same error
 
-lt-right : (q a b : ℕ) → q < min a b → q < b
-lt-right q a b h = omega (arith, h)
+in-reach : (o R x w : ℕ) → o - R ≤ x → x < min w (o + 1) → o - x ≤ R
+in-reach o R x w low high = omega (arith, low, high)
 
--- the columns that a block's values come of lie in the image
-pub columns-in : (w X R C x n : ℕ) → X + C ≤ w + R → x ≡ X - R → n ≡ min w (X + C) - (X - R) → x + n ≤ w
-columns-in w X R C x n right p q = omega (arith, right, p, q)
+module _ (F : Frame) (G : Scene) (b b′ : List Float) (c : ℕ) (same : (i j : ℕ) → i ≤ 2 * F .radius → j ≤ 2 * F .radius → entry b (F .radius) i j ≡ entry b′ (F .radius) i j) where
+  blurred-same : (ox oy : ℕ) → blurredAt F G b c ox oy ≡ blurredAt F G b′ c ox oy
+  unfolding blurredAt blurRow blurTerm
+  blurred-same ox oy =
+      let R = 2 * F .radius in
+      fromTo-same (oy - R) (min (F .height) (oy + 1)) _ _ f0
+      (λ y low high s. fromTo-same (ox - R) (min (F .width) (ox + 1)) _ _ s
+      (λ x left right t. rw (same (ox - x) (oy - y) (in-reach ox R x (F .width) left right) (in-reach oy R y (F .height) low high))))
 
--- and there is room for them
-pub count-is : (w X R C past x : ℕ) → past ≡ min w (X + C) → x ≡ X - R → past - x ≡ min w (X + C) - (X - R)
-count-is w X R C past x p q = rw (p, q)
+  row-same : (oy : ℕ) → rowError F G b c oy ≡ rowError F G b′ c oy
+  unfolding rowError squareTerm
+  row-same oy = upTo-same (F .width + 2 * F .radius) (squareTerm F G b c oy) (squareTerm F G b′ c oy) f0 (λ ox h s. rw (blurred-same ox oy))
 
-pub count-most : (w X R C past x : ℕ) → past ≡ min w (X + C) → x ≡ X - R → C ≤ 128 → R ≤ 32 → past - x ≤ 160
-count-most w X R C past x p q h g = omega (arith, p, q, h, g)
+  pub error-same : blurError F G b c ≡ blurError F G b′ c
+  unfolding blurError
+  error-same = upTo-same (F .height + 2 * F .radius) (λ oy s. s +f rowError F G b c oy) (λ oy s. s +f rowError F G b′ c oy) f0 (λ oy h s. rw (row-same oy))
 
--- a block that begins left of the blur's reach, by b columns
-near-column : (X R b j q : ℕ) → R ≡ X + b → j - b ≤ q → q < j + (R + 1) - b → R - (q + b - j) ≡ X + j - (0 + q)
-near-column X R b j q e p h = omega (arith, e, p, h)
+-- ---- a block
 
-near-past : (w X R b C j : ℕ) → R ≡ X + b → j < C → 0 + min (min w (X + C) - 0) (j + (R + 1) - b) ≡ min w (X + j + 1)
-near-past w X R b C j e h = omega (arith, e, h)
+tap-of : (o R x w : ℕ) → o - R ≤ x → x < min w (o + 1) → x + R - o ≡ R - (o - x)
+tap-of o R x w low high = omega (arith, low, high)
 
--- one that begins right of it, the image's first column being a
-far-column : (X R a j q : ℕ) → X ≡ a + R → j - 0 ≤ q → q < j + (R + 1) - 0 → R - (q + 0 - j) ≡ X + j - (a + q)
-far-column X R a j q e p h = omega (arith, e, p, h)
+module _ (W : View) (G : Scene) (taps : List Float) (square : length taps ≡ (2 * W .frame .radius + 1) * (2 * W .frame .radius + 1)) where
+  abbrev F : Frame
+  F = W .frame
 
-far-past : (w X R a C j : ℕ) → X ≡ a + R → j < C → X + C ≤ w + R → a + min (min w (X + C) - a) (j + (R + 1) - 0) ≡ min w (X + j + 1)
-far-past w X R a C j e h right = omega (arith, e, h, right)
+  abbrev R : ℕ
+  R = 2 * W .frame .radius
 
--- the blur's row for row Y + i of the blurred error and row y of the image
-row-le : (y R Y i : ℕ) → y ≤ Y + i → y + R - Y - i ≤ R
-row-le y R Y i h = omega (arith, h)
+  -- its sums, from 0, are the blurred error
+  seen-is : (x y rows i j : ℕ) → sumRows (blockOf W x y rows) G taps (F .height) i j f0 ≡ blurredAt F G (mirrorOf taps) (W .channel) (x + j) (y + i)
+  unfolding sumRows sumRow sumTerm blurredAt blurRow blurTerm
+  seen-is x y rows i j =
+      let ox = x + j in
+      let oy = y + i in
+      fromTo-rel (λ (s t : Float). s ≡ t) (oy - R) (min (F .height) (oy + 0 + 1)) (oy - R) (min (F .height) (oy + 1)) _ (blurRow F G (mirrorOf taps) (W .channel) ox oy) refl (omega arith)
+      (λ v low high s t e.
+      let below : v < min (F .height) (oy + 1) = omega (arith, high) in
+      rw e (fromTo-rel (λ (p q : Float). p ≡ q) (ox - R) (min (F .width) (ox + 0 + 1)) (ox - R) (min (F .width) (ox + 1)) _ (blurTerm F G (mirrorOf taps) (W .channel) ox oy v) refl (omega arith)
+      (λ u left right p q d.
+      let within : u < min (F .width) (ox + 1) = omega (arith, right) in
+      let side : R + 0 + 1 ≡ R + 1 = omega arith in
+      rw (d, side, entry-is taps (W .frame .radius) (ox - u) (oy - v) square (in-reach ox R u (F .width) left within) (in-reach oy R v (F .height) low below), tap-of ox R u (F .width) left within, tap-of oy R v (F .height) low below))
+      t t refl))
+      f0 f0 refl
 
-row-lt : (y R Y a i : ℕ) → a ≡ y - Y → a ≤ i → suc (y + R - Y - i) ≤ R + 1
-row-lt y R Y a i e h = omega (arith, e, h)
-
-row-of : (y R Y i : ℕ) → y ≤ Y + i → Y + i ≤ y + R → R - (y + R - Y - i) ≡ Y + i - y
-row-of y R Y i h g = omega (arith, h, g)
-
--- the blur's column for a block's column j and the image's column X - R + q
-column-is : (X R j q : ℕ) → j - (R - X) ≤ q → q < j + (R + 1) - (R - X) → R - (q + (R - X) - j) ≡ X + j - (X - R + q)
-column-is X R j q p h =
-    ⊎-elim
-    (λ l. let e : X - R ≡ 0 = omega (arith, l) in rw e (near-column X R (R - X) j q (omega (arith, l)) p h))
-    (λ g. let e : R - X ≡ 0 = omega (arith, g) in let p′ : j - 0 ≤ q = rw e at p in let h′ : q < j + (R + 1) - 0 = rw e at h in rw e (far-column X R (X - R) j q (omega (arith, g)) p′ h′))
-    (lt-or-ge X R)
-
-column-le : (X R j q : ℕ) → q < j + (R + 1) - (R - X) → q + (R - X) - j ≤ R
-column-le X R j q h =
-    ⊎-elim
-    (λ l. omega (arith, l, h))
-    (λ g. let e : R - X ≡ 0 = omega (arith, g) in let h′ : q < j + (R + 1) - 0 = rw e at h in rw e (omega (arith, g, h′)))
-    (lt-or-ge X R)
-
--- the image's columns for column j
-span-first : (X R j : ℕ) → X - R + (j - (R - X)) ≡ X + j - R
-span-first X R j =
-    ⊎-elim
-    (λ l. let e : X - R ≡ 0 = omega (arith, l) in rw e (omega (arith, l)))
-    (λ g. let e : R - X ≡ 0 = omega (arith, g) in rw e (omega (arith, g)))
-    (lt-or-ge X R)
-
-span-past : (w X R C j : ℕ) → j < C → X + C ≤ w + R → X - R + min (min w (X + C) - (X - R)) (j + (R + 1) - (R - X)) ≡ min w (X + j + 1)
-span-past w X R C j h right =
-    ⊎-elim
-    (λ l. let e : X - R ≡ 0 = omega (arith, l) in rw e (near-past w X R (R - X) C j (omega (arith, l)) h))
-    (λ g. let e : R - X ≡ 0 = omega (arith, g) in rw e (far-past w X R (X - R) C j (omega (arith, g)) h right))
-    (lt-or-ge X R)
-
--- a loop whose counter is shifted
-shift : {A : Type 0} (k a b : ℕ) (f : ℕ → A → A) (s : A) → fromTo a b (λ i. f (k + i)) s ≡ fromTo (k + a) (k + b) f s
-unfolding fromTo
-shift {A} k a b f s =
-    let e : k + b - (k + a) ≡ b - a = omega arith in
-    rw e (upTo-same (b - a) (λ i. f (k + (a + i))) (λ i. f (k + a + i)) s (λ i h t. let g : k + (a + i) ≡ k + a + i = omega arith in rw g))
-
-module _ (F : Frame) (G : Scene) (blur : List Float) (c : ℕ) (B : Block) (fits : BlockFits F B) where
-  abbrev reach : ℕ
-  reach = 2 * F .radius
-
-  abbrev x0 : ℕ
-  x0 = firstColumn F B
-
-  abbrev lead : ℕ
-  lead = reach - B .x
-
-  module _ (taps : List Float) (mirror : taps ≡ table ((reach + 1) * (reach + 1)) (mirrored blur ((reach + 1) * (reach + 1)))) where
-    row-is : (y : ℕ) (line : List Float) → line ≡ table (columnCount F B) (errorInRow (F .width) G c x0 y) → (i j : ℕ) → y ≤ B .y + i → B .y + i ≤ y + reach → j < B .columns → (s : Float) →
-        rowTaps line taps (reach + 1) (y + reach - B .y) lead i j s ≡ blurRow F G blur c (B .x + j) (B .y + i) y s
-    unfolding rowTaps tapSum tapTerm blurRow blurTerm errorInRow
-    row-is y line e i j above below in-j s =
-        let n = reach + 1 in
-        let m = columnCount F B in
-        let ox = B .x + j in
-        let oy = B .y + i in
-        let long : length line ≡ m = ap (λ (l : List Float). length l) e ∙ length-table _ _ in
-        fromTo-rel (λ (t u : Float). t ≡ u) (j + 0 - lead) (min (length line) (j + n - lead)) (j - lead) (min m (j + n - lead)) _ (λ q t. t +f blurEntry blur (F .radius) (ox - (x0 + q)) (oy - y) *f channel c (errorAt (F .width) G (x0 + q) y)) (omega arith) (ap (λ (k : ℕ). min k (j + n - lead)) long)
-        (λ q left right t u same.
-        let row = y + reach - B .y - i in
-        let column = q + lead - j in
-        let row-lt : row ≤ reach = row-le y reach (B .y) i above in
-        let past : q < j + n - lead = lt-right q (length line) (j + n - lead) right in
-        let in-line : q < m = subst (λ (k : ℕ). q < k) long (lt-left q (length line) (j + n - lead) right) in
-        let column-lt : column ≤ reach = column-le (B .x) reach j q past in
-        let tap : at taps (row * n + column) ≡ blurEntry blur (F .radius) (reach - column) (reach - row) = tap-is blur taps (F .radius) column row mirror column-lt row-lt in
-        let own-row : reach - row ≡ oy - y = row-of y reach (B .y) i above below in
-        let own-column : reach - column ≡ ox - (x0 + q) = column-is (B .x) reach j q (rw add-zero at left) past in
-        let value : at line q ≡ channel c (errorAt (F .width) G (x0 + q) y) = ap (λ (l : List Float). at l q) e ∙ getD-table m (errorInRow (F .width) G c x0 y) q nan in-line in
-        rw (same, tap, own-row, own-column, value))
-        s s refl
-        ∙ shift x0 (j - lead) (min m (j + n - lead)) (λ x t. t +f blurEntry blur (F .radius) (ox - x) (oy - y) *f channel c (errorAt (F .width) G x y)) s
-        ∙ ends (λ x t. t +f blurEntry blur (F .radius) (ox - x) (oy - y) *f channel c (errorAt (F .width) G x y)) s (span-first (B .x) reach j) (span-past (F .width) (B .x) reach (B .columns) j in-j (fits .right))
-      where
-        ends : {a b a′ b′ : ℕ} (f : ℕ → Float → Float) (t : Float) → a ≡ a′ → b ≡ b′ → fromTo a b f t ≡ fromTo a′ b′ f t
-        ends f t p q = rw (p, q)
-
-    pub row-adds : (y : ℕ) (line out out′ : List Float) (a b d : ℕ) → d ≡ lead → line ≡ table (columnCount F B) (errorInRow (F .width) G c x0 y) → a ≡ y - B .y → b ≡ min (B .rows) (y + reach + 1 - B .y) →
-        Spread (blockLines B) a b (rowTaps line taps (reach + 1) (y + reach - B .y) d) out out′ →
-        Spread (blockLines B) (y - B .y) (min (B .rows) (y + reach + 1 - B .y)) (λ i j. blurRow F G blur c (B .x + j) (B .y + i) y) out out′
-    row-adds y line out out′ a b d f e p q sp =
-        rw (p, q) at (spread-same (blockLines B) a b _ (λ i j. blurRow F G blur c (B .x + j) (B .y + i) y) out out′ (rw f at sp)
-        (λ i j low high in-j s. row-is y line e i j (omega (arith, p, low)) (omega (arith, q, high)) in-j s))
-
-  -- ---- one row more
-
-  pub rows-none : (out : List Float) → Spread (blockLines B) 0 (B .rows) (blurRows F G blur c B (B .y - reach)) out out
-  unfolding blurRows
-  rows-none out = spread-idle (blockLines B) 0 (B .rows) (blurRows F G blur c B (B .y - reach)) out (λ i j low high s. fromTo-none _ _ _ s (omega arith))
-
-  pub rows-more : (y : ℕ) (out l m : List Float) → Spread (blockLines B) 0 (B .rows) (blurRows F G blur c B y) out l →
-      Spread (blockLines B) (y - B .y) (min (B .rows) (y + reach + 1 - B .y)) (λ i j. blurRow F G blur c (B .x + j) (B .y + i) y) l m →
-      Spread (blockLines B) 0 (B .rows) (blurRows F G blur c B (y + 1)) out m
-  unfolding blurRows
-  rows-more y out l m p q =
-      spread-then (blockLines B) (B .rows) (y - B .y) (min (B .rows) (y + reach + 1 - B .y)) (blurRows F G blur c B y) (λ i j. blurRow F G blur c (B .x + j) (B .y + i) y) (blurRows F G blur c B (y + 1)) out l m (omega arith) (omega arith) p q
-      (λ i j low high in-j s.
-      let now : min y (B .y + i + 1) ≡ y = omega (arith, low) in
-      let next : min (y + 1) (B .y + i + 1) ≡ y + 1 = omega (arith, low) in
-      rw (now, next) (sym (fromTo-more (B .y + i - reach) y (blurRow F G blur c (B .x + j) (B .y + i)) s (omega (arith, high)))))
-      (λ i j in-i in-j low s. let e : min y (B .y + i + 1) ≡ min (y + 1) (B .y + i + 1) = omega (arith, low) in rw e)
-      (λ i j in-i in-j high s. fromTo-none _ _ _ s (omega (arith, high, in-i)) ∙ sym (fromTo-none _ _ _ s (omega (arith, high, in-i))))
-
-  -- all rows, from zeros
-  pub rows-all : (y : ℕ) (out l : List Float) → y ≡ min (F .height) (B .y + B .rows) → out ≡ table (B .rows * B .columns) (λ i. f0) →
-      Spread (blockLines B) 0 (B .rows) (blurRows F G blur c B y) out l → Blurred F G blur c B l
-  unfolding blurRows blurredAt
-  rows-all y out l end zeros p = record {
-    here = λ i j in-i in-j.
-        let line : 0 + 1 * i ≡ i = omega arith in
-        let zero : cellAt (B .columns) out (0 + 1 * i) j ≡ f0 =
-        rw line (ap (λ (z : List Float). cellAt (B .columns) z i j) zeros ∙ getD-table (B .rows * B .columns) (λ k. f0) (i * B .columns + j) nan (index-lt j i (B .columns) (B .rows) in-j in-i)) in
-        let last : min y (B .y + i + 1) ≡ min (F .height) (B .y + i + 1) = omega (arith, end, in-i) in
-        rw line at (p .here i j (omega arith) in-i in-j ∙ ap (blurRows F G blur c B y i j) zero) ∙ rw last;
-  }
-
-  -- row y of the image has lines to be added to, and rows of the blur for them
-  pub row-spreads : (y a b out kernel : ℕ) → F .radius ≤ 16 → B .y - reach ≤ y → y < min (F .height) (B .y + B .rows) → a ≡ y - B .y → b ≡ min (B .rows) (y + reach + 1 - B .y) →
-      out ≡ B .rows * B .columns → kernel ≡ (reach + 1) * (reach + 1) → SpreadFits (blockLines B) out a b kernel (reach + 1) (y + reach - B .y)
-  row-spreads y a b out kernel most low high from to room size =
-      record {
-        order = omega (arith, from, to, low, high);
-        wide = fits .wide;
-        apart = omega arith;
-        room = λ i p q. let m : suc (0 + 1 * i) * B .columns ≤ B .rows * B .columns = mul-le-mul-right (B .columns) (omega (arith, to, q)) in omega (arith, m, room);
-        most = omega (arith, room, product-le (B .rows) (B .columns) 64 128 (fits .rows) (fits .columns));
-        taps = λ i p q. (omega (arith, to, q, low), let m : suc (y + reach - B .y - i) * (reach + 1) ≤ (reach + 1) * (reach + 1) = mul-le-mul-right (reach + 1) (row-lt y reach (B .y) a i from p) in omega (arith, m, size));
-        few = let s : reach + 1 ≤ 33 = omega (arith, most) in omega (arith, size, mul-le-mul s s);
-      }
-
--- ---- squares
-
--- line i lies in the list
-pub line-room : (i rows n : ℕ) → i < rows → i * n + n ≤ rows * n
-line-room i rows n h = line-end n i rows h
-
--- the squares of line i, which is lent
-pub line-squared : (i n : ℕ) (out sums : List Float) → i * n + n ≤ length out →
-    upTo (squareOf (midOf (i * n) (i * n + n - i * n) out)) (length (midOf (i * n) (i * n + n - i * n) out)) (at sums i) ≡ lineSquares out n sums i
-unfolding squareOf lineSquares
-line-squared i n out sums room =
-    let count : i * n + n - i * n ≡ n = omega arith in
-    let part = midOf (i * n) (i * n + n - i * n) out in
-    ap (λ (k : ℕ). upTo (squareOf part) k (at sums i)) (mid-len (i * n) (i * n + n) out room ∙ count)
-    ∙ upTo-same n (squareOf part) (λ j s. s +f cellAt n out i j *f cellAt n out i j) (at sums i) (λ j h s. rw (at-mid (i * n) (i * n + n - i * n) out j (omega (arith, h))))
-
--- the squares of a block that is blurred
-pub block-squared : (F : Frame) (G : Scene) (blur : List Float) (c : ℕ) (B : Block) (out sums sums′ : List Float) → Blurred F G blur c B out →
-    sums′ ≡ table (length sums) (lineSquares out (B .columns) sums) → length sums ≡ B .rows →
-    sums′ ≡ table (B .rows) (λ i. upTo (λ j. squareTerm F G blur c (B .y + i) (B .x + j)) (B .columns) (at sums i))
-unfolding lineSquares squareTerm
-block-squared F G blur c B out sums sums′ p e long =
-    e ∙ ap (λ (k : ℕ). table k (lineSquares out (B .columns) sums)) long
-    ∙ table-same (B .rows) (lineSquares out (B .columns) sums) (λ i. upTo (λ j. squareTerm F G blur c (B .y + i) (B .x + j)) (B .columns) (at sums i))
-    (λ i h. upTo-same (B .columns) _ (λ j. squareTerm F G blur c (B .y + i) (B .x + j)) (at sums i) (λ j q s. rw (p .here i j h q)))
+  -- its squares
+  pub squares-are : (B : Block) (x y rows : ℕ) (sums sums′ : List Float) → B ≡ blockOf W x y rows → sums′ ≡ table (B .rows) (blockSquares B G taps sums) →
+      sums′ ≡ table rows (λ i. upTo (λ j. squareTerm F G (mirrorOf taps) (W .channel) (y + i) (x + j)) (B .lines .width) (at sums i))
+  unfolding blockSquares squareTerm
+  squares-are B x y rows sums sums′ e p =
+      rw e (rw e at p ∙ table-same rows (blockSquares (blockOf W x y rows) G taps sums) (λ i. upTo (λ j. squareTerm F G (mirrorOf taps) (W .channel) (y + i) (x + j)) (min 128 (F .width + R - x)) (at sums i))
+      (λ i h. upTo-same (min 128 (F .width + R - x)) _ _ (at sums i) (λ j g s. rw (seen-is x y rows i j))))
 
 -- ---- bands
 
@@ -273,24 +146,55 @@ module _ (F : Frame) (G : Scene) (blur : List Float) (c y n : ℕ) where
   unfolding rowError
   band-all x sums e p = p ∙ ap banded e
 
-  -- the same by a block that begins in column x
-  pub band-turn : (x k : ℕ) (B : Block) (sums sums′ : List Float) → B ≡ block x y k n → sums ≡ banded x →
-      sums′ ≡ table (B .rows) (λ i. upTo (λ j. squareTerm F G blur c (B .y + i) (B .x + j)) (B .columns) (at sums i)) → sums′ ≡ banded (x + B .columns)
-  band-turn x k B sums sums′ e p q = rw e (band-more x k sums sums′ p (rw e at q))
+-- room of the same lengths
+pub same-view : (W : View) (G : Scene) (taps line out line′ out′ : ℕ) → ViewFits W G taps line out → line′ ≡ line → out′ ≡ out → ViewFits W G taps line′ out′
+same-view W G taps line out line′ out′ f p q = rw (p, q) f
 
 -- what the next block of a band has
-pub record NextBlock (F : Frame) (B : Block) (x rows : ℕ) : Type 0 where
-  pub fits : BlockFits F B
-  pub height : B .rows ≡ rows
-  pub on : x < x + B .columns
-  pub within : x + B .columns ≤ F .width + 2 * F .radius
+pub record NextBlock (W : View) (G : Scene) (B : Block) (taps line out x rows : ℕ) : Type 0 where
+  pub fits : SquareFits B G taps line out rows
+  pub on : x < x + B .lines .width
+  pub within : x + B .lines .width ≤ W .frame .width + 2 * W .frame .radius
 
-pub next-block : (F : Frame) (B : Block) (x y rows : ℕ) → B ≡ block x y (min 128 (F .width + 2 * F .radius - x)) rows → x < F .width + 2 * F .radius → rows ≤ 64 → y + rows ≤ F .height + 2 * F .radius → NextBlock F B x rows
-next-block F B x y rows e h few bottom =
-    let end = F .width + 2 * F .radius in
-    let some : 1 ≤ min 128 (end - x) = omega (arith, h) in
-    let most : x + min 128 (end - x) ≤ end = omega (arith, h) in
-    rw e (record { fits = record { wide = some; columns = omega arith; rows = few; right = most; bottom = bottom }; height = refl; on = omega (arith, some); within = most })
+-- the columns of the image that it takes are few
+count-most : (w x R C : ℕ) → C ≤ 128 → R ≤ 32 → min w (x + C + 0) - (x - R) ≤ 160
+count-most w x R C h g = omega (arith, h, g)
+
+pub next-block : (W : View) (G : Scene) (B : Block) (taps line out x y rows : ℕ) → ViewFits W G taps line out → B ≡ blockOf W x y rows → x < W .frame .width + 2 * W .frame .radius → rows ≤ 64 → y + rows ≤ W .frame .height + 2 * W .frame .radius →
+    NextBlock W G B taps line out x rows
+next-block W G B taps line out x y rows f e h few bottom =
+    let R = 2 * W .frame .radius in
+    let end = W .frame .width + R in
+    let C = min 128 (end - x) in
+    let some : 1 ≤ C = omega (arith, h) in
+    let most : x + C ≤ end = omega (arith, h) in
+    let thin : C ≤ 128 = omega arith in
+    let whole : rows * C ≤ 8192 = product-le rows C 64 128 few thin in
+    let one : R + 0 + 1 ≡ R + 1 = omega arith in
+    rw e (record {
+      fits = record {
+        block = record {
+          scene = f .scene;
+          reach = omega (arith, f .most);
+          wide = some;
+          apart = omega arith;
+          right = most;
+          bottom = bottom;
+          square = f .square ∙ ap (λ (n : ℕ). n * n) (sym one);
+          row = refl;
+          room = λ i g. let m : suc (0 + 1 * i) * C ≤ rows * C = mul-le-mul-right C (omega (arith, g)) in omega (arith, m, whole, f .block);
+          most = omega (arith, f .block);
+        };
+        first = refl;
+        step = refl;
+        whole = omega (arith, whole, f .block);
+        most = omega (arith, f .block);
+        errors = omega (arith, count-most (W .frame .width) x R C thin (omega (arith, f .most)), f .errors);
+        each = refl;
+      };
+      on = omega (arith, some);
+      within = most;
+    })
 
 -- the sums of a band's rows, which stand in a list
 pub band-added : (F : Frame) (G : Scene) (blur : List Float) (c y n : ℕ) (sums : List Float) (s : Float) → sums ≡ table n (λ i. rowError F G blur c (y + i)) →
@@ -299,13 +203,23 @@ band-added F G blur c y n sums s e =
     ap (λ (k : ℕ). upTo (λ i t. t +f at sums i) k s) (ap (λ (l : List Float). length l) e ∙ length-table _ _)
     ∙ upTo-same n (λ i t. t +f at sums i) (λ i t. t +f rowError F G blur c (y + i)) s (λ i h t. ap (λ (v : Float). t +f v) (ap (λ (l : List Float). at l i) e ∙ getD-table n (λ j. rowError F G blur c (y + j)) i nan h))
 
--- the first n values of a list are as few as n
-pub prefix-fits : (n y end : ℕ) (l : List Float) → n ≤ 64 → y + n ≤ end → (length (take n l) ≤ 64) × (y + length (take n l) ≤ end)
-prefix-fits n y end l h g = let e = length-take n l in (omega (arith, e, h), omega (arith, e, g))
+-- which were lent as the first values of a list
+pub band-summed : (F : Frame) (G : Scene) (blur : List Float) (c y n m : ℕ) (t rest : List Float) (s : Float) → t ≡ table m (λ i. rowError F G blur c (y + i)) → m ≡ n →
+    upTo (λ i u. u +f at (take n (t ++ rest)) i) (length (take n (t ++ rest))) s ≡ upTo (λ i u. u +f rowError F G blur c (y + i)) n s
+band-summed F G blur c y n m t rest s e p =
+    band-added F G blur c y n (take n (t ++ rest)) s (take-at t rest n (ap (λ (l : List Float). length l) e ∙ length-table _ _ ∙ p) ∙ e ∙ ap (λ (k : ℕ). table k (λ i. rowError F G blur c (y + i))) p)
+
+-- a list of which the first n values were replaced is as long as it was
+pub kept-length : (n : ℕ) (t l : List Float) → length t ≡ n → n ≤ length l → length (t ++ drop n l) ≡ length l
+kept-length n t l e h = rw (length-append, length-drop, e) (omega (arith, h))
 
 -- the rows of the next band
 pub next-band : (end y rows : ℕ) → rows ≡ min 64 (end - y) → y < end → (rows ≤ 64) × (y + rows ≤ end) × (y < y + rows)
 next-band end y rows e h = (omega (arith, e), omega (arith, e, h), omega (arith, e, h))
+
+-- the error seen through a blur, by its values from last to first
+pub seen-through : (F : Frame) (G : Scene) (blur taps : List Float) (c n : ℕ) (r : Float) → r ≡ blurError F G (mirrorOf taps) c → taps ≡ table n (mirrored blur n) → n ≡ (2 * F .radius + 1) * (2 * F .radius + 1) → r ≡ blurError F G blur c
+seen-through F G blur taps c n r q e p = q ∙ error-same F G (mirrorOf taps) blur c (blur-back blur taps (F .radius) (rw p at e))
 
 -- a blur's values have room
 pub blur-most : (r : ℕ) → r ≤ 16 → (2 * r + 1) * (2 * r + 1) ≤ 1089

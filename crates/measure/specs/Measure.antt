@@ -1,28 +1,25 @@
 -- The perceived error of a halftone: `perceived_error` of dbs.rs (document 01: 'Measuring is `perceived_error`, rows summed top to bottom; it ignores pins').
 -- The blurred error of an image reaches r pixels beyond it on each side, r being the blur's radius. Here its columns and rows are counted
--- from its own corner: column ox is column ox - r of dbs.rs, so that the blur is read in column ox - x and row oy - y.
+-- from its own corner: column ox is column ox - r of dbs.rs, so that the blur is read in column ox - x and row oy - y; of a blur's (2r + 1)² values none is past the list's end.
 use mathlib.Core.List.{List, []}
 use Prim.Native.Nat.{ℕ, _+_, _-_, _*_, _≤_, min}
-use lib.ListN.{getD, length}
-use lib.Ieee.{Float, nan}
+use lib.ListN.{length}
+use lib.Ieee.{Float}
 use Rattle.base.specs.Loop.{upTo, fromTo}
 use Rattle.base.specs.F64.{_+f_, _*f_, f0}
 use Rattle.color.specs.Inks.{channel}
+use Rattle.kernel.specs.Kernel.{entry}
 use Rattle.error.specs.Error.{Scene, scene, errorAt, SceneFits}
 use Rattle.measure.specs.declared.Frame.{Frame}
 
 abbrev pub frame : ℕ → ℕ → ℕ → Frame
 frame width height radius = record { width = width; height = height; radius = radius }
 
--- the value in column i and row j of a blur of radius r; of a blur's (2r + 1)² values none is past the list's end
-abbrev pub blurEntry : List Float → ℕ → ℕ → ℕ → Float
-blurEntry blur r i j = getD blur (j * (2 * r + 1) + i) nan
-
 -- channel c of the error of an image, seen through a blur
 module _ (F : Frame) (G : Scene) (blur : List Float) (c : ℕ) where
   -- the term of pixel (x, y), added to s
   unfoldable pub blurTerm : ℕ → ℕ → ℕ → ℕ → Float → Float
-  blurTerm ox oy y x s = s +f blurEntry blur (F .radius) (ox - x) (oy - y) *f channel c (errorAt (F .width) G x y)
+  blurTerm ox oy y x s = s +f entry blur (F .radius) (ox - x) (oy - y) *f channel c (errorAt (F .width) G x y)
 
   -- the terms of row y
   unfoldable pub blurRow : ℕ → ℕ → ℕ → Float → Float

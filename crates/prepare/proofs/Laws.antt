@@ -19,7 +19,8 @@ use Rattle.eye.specs.Eye.{eyeTests}
 use Rattle.eye.proofs.EyeLaws.{radii-fit}
 use Rattle.kernel.specs.Kernel.{eyeKernels}
 use Rattle.kernel.proofs.KernelLaws.{length-eyeKernels}
-use Rattle.error.specs.Error.{Scene, scene, SceneFits, FieldFits, fieldOf, initialError}
+use Rattle.error.specs.Error.{Scene, scene, SceneFits, initialError}
+use Rattle.field.specs.Field.{FieldFits, fieldOf}
 use Rattle.input.specs.Input.{Input, pixelCount, inkCount, inputTests, imageTests, inkTests}
 use Rattle.input.specs.Valid.{Valid}
 use Rattle.input.proofs.InputLaws.{input-numbered}

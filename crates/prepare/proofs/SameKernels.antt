@@ -40,7 +40,8 @@ use Rattle.search.specs.Search.{centreOf, valueOf, besideOf, centres, gaps, noM
 use Rattle.moves.specs.Moves.{swapKernels, movedCpe}
 use Rattle.tile.specs.Tile.{State, state, noProgress, applied, visitOf, refineRow, refineTile}
 use Rattle.walk.specs.Walk.{Refined, walkTile, walkTry, walkTiles, Walk, phaseEnd, walkPhase, walkStart, walkAt}
-use Rattle.error.specs.Error.{Scene, errorAt, correlateTerm, correlateRow, correlateAt, channelKernel, fieldAt, fieldValue, fieldOf}
+use Rattle.error.specs.Error.{Scene, errorAt}
+use Rattle.field.specs.Field.{correlateTerm, correlateRow, correlateAt, channelKernel, fieldAt, fieldValue, fieldOf}
 use Rattle.input.specs.Input.{Input, inkCount, inputTests}
 use Rattle.prepare.specs.Prepare.{tilingOf, inksOf, cppOf, sceneOf, cpeOf, errorOf, sharedOf, runOne}
 use Rattle.prepare.specs.SameKernels.{SameKernel, SameKernels}

@@ -10,7 +10,8 @@ use Rattle.color.specs.Inks.{inkValues}
 use Rattle.eye.specs.Constants.{alphaLum, alphaChroma}
 use Rattle.eye.specs.Eye.{kernelRadius}
 use Rattle.kernel.specs.Kernel.{eyeKernels}
-use Rattle.error.specs.Error.{Scene, scene, fieldOf, initialError}
+use Rattle.error.specs.Error.{Scene, scene, initialError}
+use Rattle.field.specs.Field.{fieldOf}
 use Rattle.input.specs.Input.{Input, pixelCount, inkCount, inputTests}
 use Rattle.search.specs.Shared.{Shared, shared}
 use Rattle.walk.specs.Walk.{Walk, walkStart, walkAt}

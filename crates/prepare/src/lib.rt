@@ -27,7 +27,7 @@ fn prepare_with(
 {
     color::palette_to_inks(lut, palette, inks);
     kernel::eye_kernels(params, cpp);
-    error::initial_field(lut, pixels, indices, pinned, inks, cpp, t, cpe);
+    field::initial_field(lut, pixels, indices, pinned, inks, cpp, t, cpe);
     error::initial_error(lut, pixels, indices, pinned, inks, cpe, t)
 }
 

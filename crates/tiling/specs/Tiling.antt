@@ -3,15 +3,16 @@ use Prim.Native.Nat.{ℕ, _+_, _*_, _-_, _/_, _%_, _≤_, max, min}
 use mathlib.Core.Bool.{Bool, _&&_}
 use lib.Dec.{eqb}
 use Rattle.base.specs.declared.Rect.{Rect}
+use Rattle.base.specs.Limits.{maxSide, maxRadius}
 use Rattle.tiling.specs.declared.Tiling.{Tiling}
 
 -- What holds of every image within the limits: 'width w 1–4,096, height h 0–4,096', kernel radii of at most 32.
 pub record Limits (T : Tiling) : Type 0 where
   pub wide : 1 ≤ T .width
-  pub width-limit : T .width ≤ 4096
-  pub height-limit : T .height ≤ 4096
-  pub lum-limit : T .lum ≤ 32
-  pub chroma-limit : T .chroma ≤ 32
+  pub width-limit : T .width ≤ maxSide
+  pub height-limit : T .height ≤ maxSide
+  pub lum-limit : T .lum ≤ maxRadius
+  pub chroma-limit : T .chroma ≤ maxRadius
 
 -- document 01's plane: the whole image
 unfoldable pub image : Tiling → Rect

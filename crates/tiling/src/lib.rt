@@ -2,8 +2,10 @@
 // what its definition in specs/ says, for an image within the limits. proofs/TilingLaws.antt has what the
 // definitions promise: the tiles cover the image once, and regions of one phase share no pixel.
 use base::Rect;
+use base::larger;
+use base::saturating_sub;
+use base::smaller;
 ghost use mathlib.Core.Path.{_≡_};
-ghost use Prim.Native.Nat as nat;
 ghost use Prim.Native.Nat.{_+_, _-_, _/_, _^_, _<_};
 ghost use Rattle.tiling.specs.Tiling as spec;
 ghost use Rattle.tiling.specs.Tiling.{Limits};
@@ -20,25 +22,7 @@ pub struct Tiling {
 // parallelism. The correctness bound (2 margin + 1) is enforced separately.
 const MIN_TILE: usize = 64;
 
-// Rust's `max`, `min`, `saturating_sub` and `div_ceil`.
-fn max(a: usize, b: usize) -> usize
-    ensures { λ r. ⌜ r ≡ nat.max a b ⌝ }
-{
-    if a < b { b } else { a }
-}
-
-fn min(a: usize, b: usize) -> usize
-    ensures { λ r. ⌜ r ≡ nat.min a b ⌝ }
-{
-    if a < b { a } else { b }
-}
-
-fn saturating_sub(a: usize, b: usize) -> usize
-    ensures { λ r. ⌜ r ≡ a - b ⌝ }
-{
-    if a < b { 0 } else { a - b }
-}
-
+// Rust's `div_ceil`.
 fn div_ceil(a: usize, b: usize) -> usize
     requires { ⌜ (0 < b) × (a + b < 2 ^ 64) ⌝ }
     ensures { λ r. ⌜ r ≡ (a + (b - 1)) / b ⌝ }
@@ -51,14 +35,14 @@ pub fn margin(t: Tiling) -> usize
     requires { ⌜ Limits t ⌝ }
     ensures { λ r. ⌜ r ≡ spec.margin t ⌝ }
 {
-    max(t.lum, t.chroma) + 1
+    larger(t.lum, t.chroma) + 1
 }
 
 pub fn side(t: Tiling) -> usize
     requires { ⌜ Limits t ⌝ }
     ensures { λ r. ⌜ r ≡ spec.side t ⌝ }
 {
-    max(MIN_TILE, 2 * margin(t) + 1)
+    larger(MIN_TILE, 2 * margin(t) + 1)
 }
 
 pub fn columns(t: Tiling) -> usize
@@ -106,6 +90,18 @@ pub fn is_in_phase(t: Tiling, phase: usize, tile: usize) -> bool
     tile_x(t, tile) % 2 == phase % 2 && tile_y(t, tile) % 2 == phase / 2
 }
 
+// The whole image.
+pub fn image_rect(t: Tiling) -> Rect
+    ensures { λ r. ⌜ r ≡ spec.image t ⌝ }
+{
+    Rect {
+        x0: 0,
+        y0: 0,
+        x1: t.width,
+        y1: t.height,
+    }
+}
+
 // The pixels of a tile.
 pub fn tile_rect(t: Tiling, tile: usize) -> Rect
     requires { ⌜ Limits t ⌝ }
@@ -118,8 +114,8 @@ pub fn tile_rect(t: Tiling, tile: usize) -> Rect
     Rect {
         x0: x0,
         y0: y0,
-        x1: min(t.width, x0 + side),
-        y1: min(t.height, y0 + side),
+        x1: smaller(t.width, x0 + side),
+        y1: smaller(t.height, y0 + side),
     }
 }
 
@@ -134,7 +130,7 @@ pub fn region_rect(t: Tiling, tile: usize) -> Rect
     Rect {
         x0: saturating_sub(rect.x0, margin),
         y0: saturating_sub(rect.y0, margin),
-        x1: min(t.width, rect.x1 + margin),
-        y1: min(t.height, rect.y1 + margin),
+        x1: smaller(t.width, rect.x1 + margin),
+        y1: smaller(t.height, rect.y1 + margin),
     }
 }

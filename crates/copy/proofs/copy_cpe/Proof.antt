@@ -19,25 +19,25 @@ abbrev μ-loop : tie.MeasureT-loop
 μ-loop from f to₀ p w n y₀ to y = w .y1 - y
 
 -- both rows lie in their lists
-from-room : (c : tie.After-row-start2 Inv-loop μ-loop) →
-    (c .before .row-start .result + 3 * width (c .before .before .before .before .before .before .before .before .args .w) ≤ length (c .before .before .before .before .before .before .before .before .args .from .now))
+from-room : (c : tie.After-place2 Inv-loop μ-loop) →
+    (c .before .place .result + 3 * width (c .before .before .before .before .before .before .before .before .args .w) ≤ length (c .before .before .before .before .before .before .before .before .args .from .now))
     × (length (c .before .before .before .before .before .before .before .before .args .from .now) ≤ 50331648)
 from-room c =
     let s = c .before .before .before .before .before .before .before .before in
     let l = c .before .before .before .before .loop in
     let h = s .pre .0 .0 in
     let room = row-room 3 (s .args .f) (s .args .w) (l .y) (h .within) (h .columns) (l .inv .0) (c .before .before .if1 .taken) in
-    (omega (arith, room, c .before .row-start .ensures, s .pre .1 .0), omega (arith, held-area (s .args .f) (s .args .w) h, s .pre .1 .0))
+    (omega (arith, room, c .before .place .ensures, s .pre .1 .0), omega (arith, held-area (s .args .f) (s .args .w) h, s .pre .1 .0))
 
-to-room : (c : tie.After-row-start2 Inv-loop μ-loop) →
-    (c .row-start2 .result + 3 * width (c .before .before .before .before .before .before .before .before .args .w) ≤ length (c .before .before .before .before .loop .to))
+to-room : (c : tie.After-place2 Inv-loop μ-loop) →
+    (c .place2 .result + 3 * width (c .before .before .before .before .before .before .before .before .args .w) ≤ length (c .before .before .before .before .loop .to))
     × (length (c .before .before .before .before .loop .to) ≤ 50331648)
 to-room c =
     let s = c .before .before .before .before .before .before .before .before in
     let l = c .before .before .before .before .loop in
     let h = s .pre .0 .1 in
     let room = row-room 3 (s .args .p) (s .args .w) (l .y) (h .within) (h .columns) (l .inv .0) (c .before .before .if1 .taken) in
-    (omega (arith, room, c .row-start2 .ensures, s .pre .1 .1, l .inv .3), omega (arith, held-area (s .args .p) (s .args .w) h, s .pre .1 .1, l .inv .3))
+    (omega (arith, room, c .place2 .ensures, s .pre .1 .1, l .inv .3), omega (arith, held-area (s .args .p) (s .args .w) h, s .pre .1 .1, l .inv .3))
 
 sub-n : tie.Need-sub-n Inv-loop μ-loop
 sub-n c = search needs
@@ -52,11 +52,11 @@ loop-holds c =
     let h = s .pre .0 in
     (omega arith, h .0 .lines, refl, refl, sym (rows-none nan 3 (s .args .f) (s .args .p) (s .args .w) (s .args .from .now) (s .args .to .now) (h .0 .within) (h .1 .within) (h .0 .columns) (s .pre .1 .1)))
 
-row-start-requires : tie.Need-row-start-requires Inv-loop μ-loop
-row-start-requires c κs = search needs
+place-requires : tie.Need-place-requires Inv-loop μ-loop
+place-requires c κs = search needs
 
-row-start-requires-2 : tie.Need-row-start-requires-2 Inv-loop μ-loop
-row-start-requires-2 c κs = search needs
+place-requires-2 : tie.Need-place-requires-2 Inv-loop μ-loop
+place-requires-2 c κs = search needs
 
 add-copy-values : tie.Need-add-copy-values Inv-loop μ-loop
 unfolding width
@@ -112,8 +112,8 @@ loop-again c =
     let h = s .pre .0 in
     let below = at .before .before .if1 .taken in
     let e = turn nan 3 (s .args .f) (s .args .p) (s .args .w) (s .args .from .now) (s .args .to .now) (h .0 .within) (h .1 .within) (h .0 .columns)
-    (l .y) (at .before .row-start .result) (at .row-start2 .result) _ (l .to) (c .before .before .copy-values .last .1 .0) (l .inv .0) below (s .pre .1 .0)
-    (at .before .row-start .ensures) (at .row-start2 .ensures) (l .inv .2) (l .inv .4) (c .before .before .copy-values .ensures) in
+    (l .y) (at .before .place .result) (at .place2 .result) _ (l .to) (c .before .before .copy-values .last .1 .0) (l .inv .0) below (s .pre .1 .0)
+    (at .before .place .ensures) (at .place2 .ensures) (l .inv .2) (l .inv .4) (c .before .before .copy-values .ensures) in
     (omega (arith, l .inv .0), omega (arith, below), refl, ap length e ∙ length-paste nan 3 _ _ _ _ ∙ sym (s .pre .1 .1), e)
 
 same-length : tie.Need-same-length Inv-loop μ-loop
@@ -135,8 +135,8 @@ copy-cpe-spec =
     sub-n
     mul-n
     loop-holds
-    row-start-requires
-    row-start-requires-2
+    place-requires
+    place-requires-2
     add-copy-values
     mul-copy-values
     sub-copy-values

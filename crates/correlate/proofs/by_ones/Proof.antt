@@ -1,13 +1,13 @@
 -- `by_ones` meets its contract: after each turn the sums have the taps from `first` to d - 1. Assumes nothing.
 use native.Mathlib.Omega.{arith}
 use Prim.Native.Nat.{suc, _+_, _-_, _≤_}
-use native.Mathlib.Numerals.{add-one}
 use mathlib.Core.Path.{_≡_, sym, subst}
 use borrow.Author.Needs.{needs}
 use lib.ListN.{length}
 use Rattle.correlate.specs.Correlate.{at, tapSum, Changed, RowFits}
-use Rattle.correlate.proofs.TapLaws.{tap-none, tap-turn}
-use Rattle.correlate.proofs.ChangedLaws.{changed-idle, changed-then}
+use Rattle.correlate.proofs.TapLaws.{tap-none}
+use Rattle.correlate.proofs.ChangedLaws.{changed-idle}
+use Rattle.correlate.proofs.RowLaws.{ones-more}
 use Rattle.correlate.proofs.by_ones.Statement.{statement}
 use Rattle.correlate.proofs.by_ones.Tie as tie
 
@@ -41,11 +41,10 @@ loop-again : tie.Need-loop-again Inv-loop μ-loop
 loop-again c =
     let s = c .before .before .before .before .before .before .before .before .before .before in
     let l = c .before .before .before .before .before .loop in
-    let next = add-one (l .d) in (
+    let turn = c .before .before .one-tap in (
       omega (arith, l .inv .0),
       omega (arith, c .before .before .before .before .loop-test .taken),
-      rw next (changed-then _ _ _ _ _ _ _ _ (l .inv .2) (c .before .before .one-tap .ensures)
-          (λ i low high t. tap-turn (at (s .args .values .now)) (at (s .args .taps .now)) (length (s .args .values .now)) (s .args .lead) i (s .args .first) (l .d) t (l .inv .0))),
+      ones-more (s .args .values .now) (s .args .taps .now) (s .args .lead) (s .args .a) (s .args .b) (s .args .first) (l .d) (s .args .sums .now) (l .sums) (turn .last .0) (l .inv .0) (l .inv .2) (turn .ensures),
     )
 
 same-length : tie.Need-same-length Inv-loop μ-loop

@@ -1,12 +1,7 @@
 -- `correlate_row` meets its contract: the sums at both ends and those between, one range after the other. Assumes nothing.
 use native.Mathlib.Omega.{arith}
-use Prim.Native.Nat.{ℕ, _+_, _-_}
-use mathlib.Core.Path.{_≡_}
 use lib.ListN.{length}
-use lib.Ieee.{Float}
-use Rattle.correlate.specs.Correlate.{at, tapSum}
-use Rattle.correlate.proofs.TapLaws.{tap-join}
-use Rattle.correlate.proofs.ChangedLaws.{changed-then, changed-beside}
+use Rattle.correlate.proofs.RowLaws.{row-made}
 use borrow.Author.Needs.{needs}
 use Rattle.correlate.proofs.correlate_row.Statement.{statement}
 use Rattle.correlate.proofs.correlate_row.Tie as tie
@@ -14,14 +9,14 @@ use Rattle.correlate.proofs.correlate_row.Tie as tie
 smaller-requires : tie.Need-smaller-requires
 smaller-requires c κs = search needs
 
-add-cut : tie.Need-add-cut
-add-cut c = search needs
+add-saturating-sub : tie.Need-add-saturating-sub
+add-saturating-sub c = search needs
 
-add-cut-2 : tie.Need-add-cut-2
-add-cut-2 c = search needs
+add-saturating-sub-2 : tie.Need-add-saturating-sub-2
+add-saturating-sub-2 c = search needs
 
-cut-requires : tie.Need-cut-requires
-cut-requires c κs = search needs
+saturating-sub-requires : tie.Need-saturating-sub-requires
+saturating-sub-requires c κs = search needs
 
 smaller-requires-2 : tie.Need-smaller-requires-2
 smaller-requires-2 c κs = search needs
@@ -50,27 +45,33 @@ by-ones-requires-4 c κs = search needs
 same-length-2 : tie.Need-same-length-2
 same-length-2 c = search needs
 
+-- the places of the last return, from the end to the start: the left end and what lies between are done, their limits known
+abbrev fours : tie.After-slice-known6 → tie.After-by-fours
+fours c = c .before .before .before .before .before .before .before .before .before .before
+
+abbrev left : tie.After-by-fours → tie.After-by-ones2
+left c = c .before .before .before .before
+
+abbrev start : tie.After-smaller → tie.Start
+start c = c .before .before .before .before
+
 returns-2 : tie.Need-returns-2
 returns-2 c =
-    let s = c .before .before .before .before .before .before .before .before .before .before .before .before .before .before .before .before .before .before .before .before .before .before .before in
-    let t = length (s .args .taps .now) in
-    let d = c .before .before .before .before .before .before .before .before .before .before .by-fours .result in
-    let whole : d + (t - d) ≡ t = omega (arith, c .before .before .before .before .before .before .before .before .before .before .by-fours .ensures .0) in
-    let f : ℕ → Float → Float = λ i. tapSum (at (s .args .values .now)) (at (s .args .taps .now)) (length (s .args .values .now)) (s .args .lead) i 0 t in
-    changed-beside 0 (c .before .before .before .before .before .before .before .before .before .before .before .before .before .before .before .before .before .smaller2 .result) _ f _ _ _ (omega arith) (omega (arith, c .before .before .before .before .before .before .before .before .before .before .before .before .before .before .before .before .before .smaller2 .ensures))
-    (changed-beside 0 (c .before .before .before .before .before .before .before .before .before .before .before .before .before .before .before .before .before .before .before .smaller .result) _ f _ _ _ (omega arith) (omega (arith, c .before .before .before .before .before .before .before .before .before .before .before .before .before .before .before .before .if1 .left)) (c .before .before .before .before .before .before .before .before .before .before .before .before .before .before .by-ones2 .ensures)
-    (changed-then _ _ _ _ f _ _ _ (c .before .before .before .before .before .before .before .before .before .before .by-fours .ensures .1) (c .before .before .before .before .before .before .by-ones3 .ensures)
-    (λ i low high u. rw whole at (tap-join (at (s .args .values .now)) (at (s .args .taps .now)) (length (s .args .values .now)) (s .args .lead) i 0 d (t - d) u (omega arith)))))
-    (c .before .before .by-ones4 .ensures)
+    let f = fours c in
+    let e = left f in
+    let hi = e .before .before .before .smaller2 in
+    let lo = e .before .before .before .before .before in
+    let s = start lo in
+    row-made (s .args .values .now) (s .args .taps .now) (s .args .lead) (lo .smaller .result) (hi .result) (length (s .args .sums .now)) (f .by-fours .result) _ _ _ _ _ (omega (arith, e .before .before .if1 .left)) (omega (arith, hi .ensures)) (f .by-fours .ensures .0) (e .by-ones2 .ensures) (f .by-fours .ensures .1) (c .before .before .before .before .before .before .by-ones3 .ensures) (c .before .before .by-ones4 .ensures)
 
 pub correlate-row-spec : {M : Type 1} → statement M
 correlate-row-spec =
     tie.close
     (tie.spec
     smaller-requires
-    add-cut
-    add-cut-2
-    cut-requires
+    add-saturating-sub
+    add-saturating-sub-2
+    saturating-sub-requires
     smaller-requires-2
     by-ones-requires
     same-length

@@ -12,20 +12,20 @@ use Rattle.correlate.proofs.one_tap.Tie as tie
 -- the sums that the tap reaches
 reached : (c : tie.Else1) → Reach (c .before .before .before .before .before .before .before .before .args .a) (c .before .before .before .before .before .before .before .before .args .b) (length (c .before .before .before .before .before .before .before .before .args .values .now)) (c .before .before .before .before .before .before .before .before .args .lead) (c .before .before .before .before .before .before .before .before .args .d) (c .before .before .before .larger .result) (c .before .smaller .result)
 reached c =
-    reach _ _ _ _ _ _ _ (c .before .before .before .larger .ensures ∙ ap (max (c .before .before .before .before .before .before .before .before .args .a)) (c .before .before .before .before .cut .ensures))
-    (c .before .smaller .ensures ∙ ap (min (c .before .before .before .before .before .before .before .before .args .b)) (c .before .before .cut2 .ensures)) (omega (arith, c .if1 .left))
+    reach _ _ _ _ _ _ _ (c .before .before .before .larger .ensures ∙ ap (max (c .before .before .before .before .before .before .before .before .args .a)) (c .before .before .before .before .saturating-sub .ensures))
+    (c .before .smaller .ensures ∙ ap (min (c .before .before .before .before .before .before .before .before .args .b)) (c .before .before .saturating-sub2 .ensures)) (omega (arith, c .if1 .left))
 
-cut-requires : tie.Need-cut-requires
-cut-requires c κs = search needs
+saturating-sub-requires : tie.Need-saturating-sub-requires
+saturating-sub-requires c κs = search needs
 
 larger-requires : tie.Need-larger-requires
 larger-requires c κs = search needs
 
-add-cut : tie.Need-add-cut
-add-cut c = search needs
+add-saturating-sub : tie.Need-add-saturating-sub
+add-saturating-sub c = search needs
 
-cut-requires-2 : tie.Need-cut-requires-2
-cut-requires-2 c κs = search needs
+saturating-sub-requires-2 : tie.Need-saturating-sub-requires-2
+saturating-sub-requires-2 c κs = search needs
 
 smaller-requires : tie.Need-smaller-requires
 smaller-requires c κs = search needs
@@ -33,7 +33,7 @@ smaller-requires c κs = search needs
 returns : tie.Need-returns
 returns c =
     reach-none (c .before .before .before .before .before .before .before .before .args .values .now) (c .before .before .before .before .before .before .before .before .args .taps .now) (c .before .before .before .before .before .before .before .before .args .lead) (c .before .before .before .before .before .before .before .before .args .a) (c .before .before .before .before .before .before .before .before .args .b) (c .before .before .before .before .before .before .before .before .args .d) _ _ (c .before .before .before .before .before .before .before .before .args .sums .now)
-    (c .before .before .before .larger .ensures ∙ ap (max (c .before .before .before .before .before .before .before .before .args .a)) (c .before .before .before .before .cut .ensures)) (c .before .smaller .ensures ∙ ap (min (c .before .before .before .before .before .before .before .before .args .b)) (c .before .before .cut2 .ensures)) (omega (arith, c .if1 .taken))
+    (c .before .before .before .larger .ensures ∙ ap (max (c .before .before .before .before .before .before .before .before .args .a)) (c .before .before .before .before .saturating-sub .ensures)) (c .before .smaller .ensures ∙ ap (min (c .before .before .before .before .before .before .before .before .args .b)) (c .before .before .saturating-sub2 .ensures)) (omega (arith, c .if1 .taken))
 
 add-from : tie.Need-add-from
 add-from c = search needs
@@ -99,10 +99,10 @@ pub one-tap-spec : {M : Type 1} → statement M
 one-tap-spec =
     tie.close
     (tie.spec
-    cut-requires
+    saturating-sub-requires
     larger-requires
-    add-cut
-    cut-requires-2
+    add-saturating-sub
+    saturating-sub-requires-2
     smaller-requires
     returns
     add-from

@@ -1,14 +1,14 @@
 -- `channel_errors` meets its contract: after each turn the line is filled up to i. Assumes nothing.
-use mathlib.Core.Path.{_≡_, refl, ap, _∙_}
+use mathlib.Core.Path.{_≡_, refl}
 use Prim.Native.Nat.{_+_, _-_, _≤_, _<_}
 use native.Mathlib.Omega.{arith}
 use borrow.Author.Needs.{needs}
 use lib.ListN.{length, length-set}
 use lib.Ieee.{nan}
 use Rattle.base.proofs.TableLaws.{filled, fill-none, fill-turn, fill-done}
-use Rattle.color.specs.Inks.{channel}
 use Rattle.error.specs.Error.{scene}
 use Rattle.error.specs.Rows.{errorInRow}
+use Rattle.error.proofs.Laws.{in-row}
 use Rattle.error.proofs.channel_errors.Statement.{statement}
 use Rattle.error.proofs.channel_errors.Tie as tie
 
@@ -18,17 +18,21 @@ Inv-loop lut pixels indices pinned inks width c x y line₀ i₀ i-end line i = 
 abbrev μ-loop : tie.MeasureT-loop
 μ-loop lut pixels indices pinned inks width c x y line₀ i₀ i-end line i = i-end - i
 
+-- where the function starts
+abbrev start : tie.In-loop Inv-loop μ-loop → tie.Start Inv-loop μ-loop
+start c = c .before .before .before .before .before .before .before
+
 loop-holds : tie.Need-loop-holds Inv-loop μ-loop
 loop-holds c = (omega arith, refl, refl, fill-none _ _)
 
 add-error-at : tie.Need-add-error-at Inv-loop μ-loop
 add-error-at c =
-    let s = c .before .before .before .before .before .before .before in
+    let s = start c in
     omega (arith, s .pre .1 .right, c .loop-test .taken, c .before .loop .inv .1)
 
 error-at-requires : tie.Need-error-at-requires Inv-loop μ-loop
 error-at-requires c κs =
-    let s = c .before .before .before .before .before .before .before in
+    let s = start c in
     (s .pre .0, s .pre .1 .pixel (c .before .loop .i) (omega (arith, c .loop-test .taken, c .before .loop .inv .1)))
 
 channel-of-requires : tie.Need-channel-of-requires Inv-loop μ-loop
@@ -47,11 +51,13 @@ loop-less : tie.Need-loop-less Inv-loop μ-loop
 loop-less c = search needs
 
 loop-again : tie.Need-loop-again Inv-loop μ-loop
-unfolding errorInRow
 loop-again c =
-    let h = c .before .before .before .loop .inv in
-    let room : c .before .before .before .loop .i < length (c .before .before .before .before .before .before .before .before .before .args .line .now) = omega (arith, c .before .before .loop-test .taken, h .1) in
-    (omega (arith, room), refl, simp length-set (h .2), fill-turn nan _ _ _ _ _ room (h .3) (c .channel-of .ensures ∙ ap (channel (c .before .before .before .before .before .before .before .before .before .args .c)) (c .before .error-at .ensures)))
+    let l = c .before .before .before .loop in
+    let h = l .inv in
+    let s = start (c .before .before) in
+    let room : l .i < length (s .args .line .now) = omega (arith, c .before .before .loop-test .taken, h .1) in
+    let e = c .before .error-at in
+    (omega (arith, room), refl, simp length-set (h .2), fill-turn nan _ _ _ _ _ room (h .3) (in-row (s .args .width) (scene (s .args .pixels .now) (s .args .indices .now) (s .args .pinned .now) (s .args .inks .now)) (s .args .c) (s .args .x) (s .args .y) (l .i) (e .result) (c .channel-of .result) (e .ensures) (c .channel-of .ensures)))
 
 same-length : tie.Need-same-length Inv-loop μ-loop
 same-length c = c .before .loop .inv .2

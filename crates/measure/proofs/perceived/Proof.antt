@@ -1,11 +1,8 @@
--- `measure::perceived` meets its contract: each channel comes of its own blur, and the mask is empty. Assumes nothing.
+-- `measure::perceived` meets its contract: each channel comes of its own blur, and nothing is pinned. Assumes nothing.
 use Rattle.measure.specs.Measure.{perceivedOf}
 use borrow.Author.Needs.{needs}
 use Rattle.measure.proofs.perceived.Statement.{statement}
 use Rattle.measure.proofs.perceived.Tie as tie
-
-slice-aggregate-none : tie.Need-slice-aggregate-none
-slice-aggregate-none c = search needs
 
 channel-error-requires : tie.Need-channel-error-requires
 channel-error-requires c κs = search needs
@@ -23,9 +20,4 @@ returns c = rw (c .before .before .channel-error .ensures, c .before .channel-er
 pub perceived-spec : {M : Type 1} → statement M
 perceived-spec =
     tie.close
-    (tie.spec
-    slice-aggregate-none
-    channel-error-requires
-    channel-error-requires-2
-    channel-error-requires-3
-    returns)
+    (tie.spec channel-error-requires channel-error-requires-2 channel-error-requires-3 returns)

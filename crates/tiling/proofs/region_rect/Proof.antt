@@ -18,25 +18,25 @@ saturating-sub-requires c κs = search needs
 saturating-sub-requires-2 : tie.Need-saturating-sub-requires-2
 saturating-sub-requires-2 c κs = search needs
 
-add-min : tie.Need-add-min
-add-min c =
+add-smaller : tie.Need-add-smaller
+add-smaller c =
     let p = c .before .before .before .before .before .pre in
     rw (c .before .before .before .tile-rect .ensures, c .before .before .before .before .margin .ensures) (omega (arith, tile-limit _ (p .0) _ (p .1) .2, sizes _ (p .0) .margin-limit))
 
-min-requires : tie.Need-min-requires
-min-requires c κs = search needs
+smaller-requires : tie.Need-smaller-requires
+smaller-requires c κs = search needs
 
-add-min-2 : tie.Need-add-min-2
-add-min-2 c =
+add-smaller-2 : tie.Need-add-smaller-2
+add-smaller-2 c =
     let p = c .before .before .before .before .before .before .before .pre in
     rw (c .before .before .before .before .before .tile-rect .ensures, c .before .before .before .before .before .before .margin .ensures) (omega (arith, tile-limit _ (p .0) _ (p .1) .3, sizes _ (p .0) .margin-limit))
 
-min-requires-2 : tie.Need-min-requires-2
-min-requires-2 c κs = search needs
+smaller-requires-2 : tie.Need-smaller-requires-2
+smaller-requires-2 c κs = search needs
 
 returns : tie.Need-returns
 unfolding region
-returns c = rw (c .min2 .ensures, c .before .before .min .ensures, c .before .before .before .before .saturating-sub2 .ensures, c .before .before .before .before .before .saturating-sub .ensures, c .before .before .before .before .before .before .before .margin .ensures, c .before .before .before .before .before .before .tile-rect .ensures)
+returns c = rw (c .smaller2 .ensures, c .before .before .smaller .ensures, c .before .before .before .before .saturating-sub2 .ensures, c .before .before .before .before .before .saturating-sub .ensures, c .before .before .before .before .before .before .before .margin .ensures, c .before .before .before .before .before .before .tile-rect .ensures)
 
 pub region-rect-spec : {M : Type 1} → statement M
 region-rect-spec =
@@ -46,8 +46,8 @@ region-rect-spec =
     tile-rect-requires
     saturating-sub-requires
     saturating-sub-requires-2
-    add-min
-    min-requires
-    add-min-2
-    min-requires-2
+    add-smaller
+    smaller-requires
+    add-smaller-2
+    smaller-requires-2
     returns)

@@ -9,18 +9,18 @@ use Rattle.tiling.proofs.side.Tie as tie
 margin-requires : tie.Need-margin-requires
 margin-requires c κs = search needs
 
-mul-max : tie.Need-mul-max
-mul-max c = omega (arith, sizes _ (c .before .pre) .margin-limit)
+mul-larger : tie.Need-mul-larger
+mul-larger c = omega (arith, sizes _ (c .before .pre) .margin-limit)
 
-add-max : tie.Need-add-max
-add-max c = omega (arith, sizes _ (c .before .pre) .margin-limit)
+add-larger : tie.Need-add-larger
+add-larger c = omega (arith, sizes _ (c .before .pre) .margin-limit)
 
-max-requires : tie.Need-max-requires
-max-requires c κs = search needs
+larger-requires : tie.Need-larger-requires
+larger-requires c κs = search needs
 
 returns : tie.Need-returns
 unfolding side
 returns c = omega arith
 
 pub side-spec : {M : Type 1} → statement M
-side-spec = tie.close (tie.spec margin-requires mul-max add-max max-requires returns)
+side-spec = tie.close (tie.spec margin-requires mul-larger add-larger larger-requires returns)

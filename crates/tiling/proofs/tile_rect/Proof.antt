@@ -27,27 +27,27 @@ mul-y0 c =
     let p = c .before .before .before .pre in
     rw (c .tile-y .ensures, c .before .before .side .ensures) (omega (arith, tile-limit _ (p .0) _ (p .1) .1))
 
-add-min : tie.Need-add-min
+add-smaller : tie.Need-add-smaller
 unfolding tile
-add-min c =
+add-smaller c =
     let p = c .before .before .before .pre in
     rw (c .before .tile-x .ensures, c .before .before .side .ensures) (omega (arith, tile-limit _ (p .0) _ (p .1) .0, sizes _ (p .0) .side-limit))
 
-min-requires : tie.Need-min-requires
-min-requires c κs = search needs
+smaller-requires : tie.Need-smaller-requires
+smaller-requires c κs = search needs
 
-add-min-2 : tie.Need-add-min-2
+add-smaller-2 : tie.Need-add-smaller-2
 unfolding tile
-add-min-2 c =
+add-smaller-2 c =
     let p = c .before .before .before .before .pre in
     rw (c .before .tile-y .ensures, c .before .before .before .side .ensures) (omega (arith, tile-limit _ (p .0) _ (p .1) .1, sizes _ (p .0) .side-limit))
 
-min-requires-2 : tie.Need-min-requires-2
-min-requires-2 c κs = search needs
+smaller-requires-2 : tie.Need-smaller-requires-2
+smaller-requires-2 c κs = search needs
 
 returns : tie.Need-returns
 unfolding tile
-returns c = rw (c .min2 .ensures, c .before .min .ensures, c .before .before .tile-y .ensures, c .before .before .before .tile-x .ensures, c .before .before .before .before .side .ensures)
+returns c = rw (c .smaller2 .ensures, c .before .smaller .ensures, c .before .before .tile-y .ensures, c .before .before .before .tile-x .ensures, c .before .before .before .before .side .ensures)
 
 pub tile-rect-spec : {M : Type 1} → statement M
 tile-rect-spec =
@@ -58,8 +58,8 @@ tile-rect-spec =
     mul-x0
     tile-y-requires
     mul-y0
-    add-min
-    min-requires
-    add-min-2
-    min-requires-2
+    add-smaller
+    smaller-requires
+    add-smaller-2
+    smaller-requires-2
     returns)
