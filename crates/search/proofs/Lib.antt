@@ -1,5 +1,4 @@
 pub mod Window
-pub mod AllEight
 pub mod FastLaws
 pub mod Order
 pub mod Laws

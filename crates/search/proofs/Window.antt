@@ -9,12 +9,12 @@ use lib.ListN.{length}
 use lib.Dec.{eqb}
 use lib.Ieee.{Float}
 use Rattle.base.specs.declared.Rect.{Rect}
+use Rattle.base.specs.Limits.{maxSide}
 use Rattle.base.specs.Grid.{width, area, place, cell, Inside, Within}
 use Rattle.base.proofs.GridLaws.{place-lt}
 use Rattle.base.proofs.Bounds.{index-lt}
 use Rattle.tiling.specs.declared.Tiling.{Tiling}
 use Rattle.tiling.specs.Tiling.{Limits, image}
-use Rattle.cpp.specs.Kernel.{kernel2D, KernelFits}
 use Rattle.neighbour.specs.Neighbour.{neighbourOf}
 use Rattle.neighbour.specs.declared.Adjacent.{Adjacent}
 use Rattle.neighbour.specs.declared.Adjacent.the-variants.{Pixel, Outside}
@@ -31,13 +31,25 @@ pub place-index : (W : Rect) (x y : ℕ) → place 1 W x y 0 ≡ (y - W .y0) * (
 unfolding place width
 place-index W x y = omega arith
 
+pub place-cpe : (W : Rect) (x y : ℕ) → place 3 W x y 0 ≡ 3 * ((y - W .y0) * (W .x1 - W .x0) + (x - W .x0))
+unfolding place width
+place-cpe W x y = omega arith
+
 pub cpe-values : (W : Rect) (cpe : List Float) (x y : ℕ) → cpeAt W cpe x y ≡ valuesAt cpe (3 * ((y - W .y0) * (W .x1 - W .x0) + (x - W .x0)))
 unfolding cell place width
 cpe-values W cpe x y = rw add-zero
 
-pub window-limits : (T : Tiling) (W : Rect) → Limits T → Within (image T) W → (W .x1 ≤ 4096) × (W .y1 ≤ 4096)
+pub window-limits : (T : Tiling) (W : Rect) → Limits T → Within (image T) W → (W .x1 ≤ maxSide) × (W .y1 ≤ maxSide)
 unfolding image
 window-limits T W l w = (omega arith, omega arith)
+
+pub image-limits : (T : Tiling) → Limits T → (image T .x1 ≤ maxSide) × (image T .y1 ≤ maxSide)
+unfolding image
+image-limits T l = (l .width-limit, l .height-limit)
+
+pub image-inside : (T : Tiling) (x y : ℕ) → x < T .width → y < T .height → Inside (image T) x y
+unfolding image
+image-inside T x y p q = record { left = omega arith; right = p; top = omega arith; bottom = q }
 
 -- a pixel's index names an ink
 pub index-named : (W : Rect) (indices : List ℕ) (n x y : ℕ) → length indices ≡ area W → Named indices n → Inside W x y → indexAt W indices x y < n
@@ -51,7 +63,7 @@ mask-fits T pinned x y l m p q =
     record { column = p; width-limit = l .width-limit; height-limit = omega (arith, q, l .height-limit); byte = λ h. rw (m h) (index-lt x y (T .width) (T .height) p q) }
 
 module _ {S : Shared} {W : Rect} {n : ℕ} {indices : List ℕ} (r : Ready S W n indices) where
-  pub ready-limits : (W .x1 ≤ 4096) × (W .y1 ≤ 4096)
+  pub ready-limits : (W .x1 ≤ maxSide) × (W .y1 ≤ maxSide)
   ready-limits = window-limits (S .tiling) W (r .limits) (r .within)
 
   pub ready-mask : (x y : ℕ) → x < S .tiling .width → y < S .tiling .height → MaskFits (S .pinned) (S .tiling .width) x y
@@ -59,10 +71,6 @@ module _ {S : Shared} {W : Rect} {n : ℕ} {indices : List ℕ} (r : Ready S W n
 
   pub ready-index : (x y : ℕ) → Inside W x y → indexAt W indices x y < S .count
   ready-index x y h = index-named W indices (S .count) x y (r .indices-room) (r .named) h
-
--- both kernels of an image within the limits have room in the store
-pub kernel-fits : (from radius : ℕ) (cpp : List Float) → from ≤ 4225 → radius ≤ 32 → length cpp ≡ 8450 → KernelFits (kernel2D from radius) cpp
-kernel-fits from radius cpp f m e = record { most = m; room = omega arith; all = e }
 
 -- ---- neighbours
 

@@ -5,6 +5,7 @@ use Prim.Native.Nat.{ℕ, _+_, _-_, _*_, _<_, _≤_, min}
 use lib.ListN.{getD, length}
 use lib.Ieee.{Float, nan}
 use Rattle.base.specs.declared.Rect.{Rect}
+use Rattle.base.specs.Limits.{maxInks, cppLength}
 use Rattle.base.specs.Grid.{area, cell, Within}
 use Rattle.color.specs.declared.YyCxCz.{YyCxCz}
 use Rattle.color.specs.Values.{valuesAt}
@@ -47,8 +48,8 @@ pub record Ready (S : Shared) (W : Rect) (cpe-length : ℕ) (indices : List ℕ)
   pub indices-room : length indices ≡ area W
   pub mask : 0 < length (S .pinned) → length (S .pinned) ≡ S .tiling .height * S .tiling .width
   pub inks-room : length (S .inks) ≡ 3 * S .count
-  pub few-inks : S .count ≤ 256
-  pub cpp-room : length (S .cpp) ≡ 8450
+  pub few-inks : S .count ≤ maxInks
+  pub cpp-room : length (S .cpp) ≡ cppLength
   pub named : Named indices (S .count)
 
 -- Pixel (x, y) lies in the image, and it and its neighbours in the image lie in the window.

@@ -2,16 +2,15 @@
 -- It reads the pixel and its neighbours, and adds kernels of radius R round both, so R + 1 pixels round it are enough. Assumes nothing.
 use Prim.Native.Nat.{ℕ, suc, _+_, _-_, _≤_, _<_, max, min}
 use native.Mathlib.Omega.{arith}
-use mathlib.Core.Path.{_≡_, refl, sym, ap, ap₂, _∙_}
+use mathlib.Core.Path.{_≡_, refl, ap, subst}
 use mathlib.Core.Bool.{Bool, true, false, cond}
 use mathlib.Core.List.{List}
-use lib.Dec.{eqb}
 use lib.Ieee.{Float, nan}
 use Rattle.base.specs.declared.Rect.{Rect}
 use Rattle.base.specs.Loop.{upTo}
 use Rattle.base.specs.Grid.{Inside, Within, place, cell, put}
 use Rattle.base.specs.F64.{_+f_, _*f_}
-use Rattle.base.proofs.LoopLaws.{upTo-same, fromTo-rel}
+use Rattle.base.proofs.LoopLaws.{fromTo-rel}
 use Rattle.base.proofs.MirrorLaws.{Mirror, mirror-put}
 use Rattle.color.specs.declared.YyCxCz.{YyCxCz}
 use Rattle.tiling.specs.declared.Tiling.{Tiling}
@@ -28,12 +27,11 @@ use Rattle.sweep.specs.declared.Channels.the-variants.{Luminance, Chrominance}
 use Rattle.sweep.specs.Sweep.{grow, addAt, sweepPixel, sweepRow, sweepOf, addKernels}
 use Rattle.sweep.proofs.Point.{grow-put}
 use Rattle.search.specs.declared.Best.{Best}
-use Rattle.search.specs.declared.Site.{Site}
 use Rattle.search.specs.declared.Move.{Move}
 use Rattle.search.specs.declared.Move.the-variants.{Stay, Toggle, Swap}
-use Rattle.color.specs.Values.{lessOf}
-use Rattle.search.specs.Shared.{Shared, inkAt, cpeAt, indexAt}
-use Rattle.search.specs.Search.{gaps, swapCost, betterOf, noMove, siteAt, toggles, eligible, partnerOf, swapWith, trySwap, swaps, evaluateOf}
+use Rattle.search.specs.Shared.{Shared, cpeAt, indexAt}
+use Rattle.search.specs.Search.{noMove, evaluateOf}
+use Rattle.search.proofs.Laws.{evaluate-same}
 use Rattle.moves.specs.Moves.{exchanged, movedIndices, swapKernels, movedCpe, counted}
 use Rattle.tile.specs.Tile.{State, applied, visitOf, refineRow, refineTile}
 use Rattle.tile.proofs.Around.{Around, around-inside, around-less, around-next}
@@ -106,41 +104,18 @@ module _ (S : Shared) (W : Rect) (cpe cpe′ : List Float) (indices indices′ :
   cpe-same : (x y : ℕ) → Inside W x y → cpeAt W cpe x y ≡ cpeAt (image (S .tiling)) cpe′ x y
   cpe-same x y h = rw (g .values x y 0 h (omega arith), g .values x y 1 h (omega arith), g .values x y 2 h (omega arith))
 
-  -- a swap that is weighed, with its two tests
-  swap-tests : (W : Rect) (cpe : List Float) (indices : List ℕ) (s : Site) (code : ℕ) (b : Best) (nx ny : ℕ) (p q : Bool) →
-      swapWith S W cpe indices s code b (cond p Outside (cond q Outside (Pixel nx ny)))
-      ≡ cond p b (cond q b (betterOf b (swapCost (gaps (S .cpp) (S .tiling) code) (lessOf (inkAt S (indexAt W indices nx ny)) (inkAt S (s .k))) (s .c) (cpeAt W cpe nx ny)) (Swap code)))
-  swap-tests W cpe indices s code b nx ny true q = refl
-  swap-tests W cpe indices s code b nx ny false true = refl
-  swap-tests W cpe indices s code b nx ny false false = refl
-
-  abbrev weighed : Site → ℕ → Best → ℕ → ℕ → ℕ → YyCxCz → Best
-  weighed s code b nx ny kn cn =
-      cond (eqb kn (s .k)) b (cond (pinnedAt (S .pinned) (S .tiling .width) nx ny) b
-      (betterOf b (swapCost (gaps (S .cpp) (S .tiling) code) (lessOf (inkAt S kn) (inkAt S (s .k))) (s .c) cn) (Swap code)))
-
   module _ (x y : ℕ) (room : Around (S .tiling) W 1 x y) where
     next-inside : (nx ny : ℕ) → Beyond x y (S .tiling .width) (S .tiling .height) (Pixel nx ny) → Inside W nx ny
     next-inside nx ny p = around-inside (around-next nx ny room (p .0) (p .1))
 
-    swap-same : (s : Site) (code : ℕ) (b : Best) (n : Adjacent) → Beyond x y (S .tiling .width) (S .tiling .height) n →
-        swapWith S W cpe indices s code b (eligible S W indices (s .k) n) ≡ swapWith S (image (S .tiling)) cpe′ indices′ s code b (eligible S (image (S .tiling)) indices′ (s .k) n)
-    swap-same s code b (Pixel nx ny) p =
-        let i = next-inside nx ny p in
-        let pin = pinnedAt (S .pinned) (S .tiling .width) nx ny in
-        swap-tests W cpe indices s code b nx ny (eqb (indexAt W indices nx ny) (s .k)) pin
-        ∙ ap₂ (weighed s code b nx ny) (g .index nx ny i) (cpe-same nx ny i)
-        ∙ sym (swap-tests (image (S .tiling)) cpe′ indices′ s code b nx ny (eqb (indexAt (image (S .tiling)) indices′ nx ny) (s .k)) pin)
-    swap-same s code b Outside p = refl
-
-    pub evaluate-same : (b : Best) → evaluateOf S W cpe indices x y b ≡ evaluateOf S (image (S .tiling)) cpe′ indices′ x y b
-    unfolding evaluateOf swaps trySwap partnerOf
-    evaluate-same b =
+    pub evaluate-local : (b : Best) → evaluateOf S W cpe indices x y b ≡ evaluateOf S (image (S .tiling)) cpe′ indices′ x y b
+    evaluate-local b =
         let h = around-inside room in
-        let site : siteAt W cpe indices x y ≡ siteAt (image (S .tiling)) cpe′ indices′ x y = rw (g .index x y h, cpe-same x y h) in
-        upTo-same 8 _ _ _ (λ code l b. swap-same (siteAt W cpe indices x y) code b (neighbourOf code x y (S .tiling .width) (S .tiling .height))
-        (near-by code x y (S .tiling .width) (S .tiling .height) (room .in-x) (room .in-y)))
-        ∙ ap (λ (s : Site). upTo (trySwap S (image (S .tiling)) cpe′ indices′ x y s) 8 (toggles S s b)) site
+        evaluate-same S W (image (S .tiling)) cpe cpe′ indices indices′ x y (g .index x y h) (cpe-same x y h)
+        (λ code nx ny e.
+        let i = next-inside nx ny (subst (Beyond x y (S .tiling .width) (S .tiling .height)) e (near-by code x y (S .tiling .width) (S .tiling .height) (room .in-x) (room .in-y))) in
+        (g .index nx ny i, cpe-same nx ny i))
+        b
 
 -- ---- a move made on both
 
@@ -210,7 +185,7 @@ module _ (S : Shared) (W : Rect) (s₀ : State) (x y : ℕ) (room : Around (S .t
             (cond i t (applied S W x y (evaluateOf S W (t .cpe) (t .indices) x y noMove) t)) (cond i s (applied S I x y (evaluateOf S I (s .cpe) (s .indices) x y noMove) s))
         go true = r
         go false =
-            let e = evaluate-same S W (t .cpe) (s .cpe) (t .indices) (s .indices) (agrees-of (S .tiling) W s₀ t s r) x y (around-less 1 (omega arith) room) noMove in
+            let e = evaluate-local S W (t .cpe) (s .cpe) (t .indices) (s .indices) (agrees-of (S .tiling) W s₀ t s r) x y (around-less 1 (omega arith) room) noMove in
             rw e (applied-rel (evaluateOf S I (s .cpe) (s .indices) x y noMove))
 
 -- a tile, where the window reaches R + 1 pixels round each of its pixels

@@ -21,7 +21,7 @@ use Rattle.search.specs.Shared.{Shared, indexAt}
 use Rattle.search.specs.Search.{evaluateOf}
 use Rattle.tile.specs.Tile.{State, state, visitOf, refineTile}
 use Rattle.tile.proofs.Around.{Around, around-less}
-use Rattle.tile.proofs.Local.{Mirrors, evaluate-same, visit-rel, tile-rel}
+use Rattle.tile.proofs.Local.{Mirrors, evaluate-local, visit-rel, tile-rel}
 
 -- ---- the words of the laws
 
@@ -118,7 +118,7 @@ module _ (S : Shared) where
     pub reads-near : (cpe : List Float) (indices : List ℕ) (b : Best) →
         evaluateOf S (box T 1 x y) (crop nan 3 (image T) (box T 1 x y) cpe) (crop 0 1 (image T) (box T 1 x y) indices) x y b ≡ evaluateOf S (image T) cpe indices x y b
     reads-near cpe indices b =
-        evaluate-same S (box T 1 x y) _ cpe _ indices
+        evaluate-local S (box T 1 x y) _ cpe _ indices
         (record { values = λ u v c j l. cell-crop nan 3 (image T) (box T 1 x y) cpe u v c j l; index = λ u v j. cell-crop 0 1 (image T) (box T 1 x y) indices u v 0 j (omega arith) })
         x y (box-around T 1 x y i) b
 

@@ -14,14 +14,15 @@ use Rattle.neighbour.specs.declared.Adjacent.{Adjacent}
 use Rattle.neighbour.specs.declared.Adjacent.the-variants.{Pixel, Outside}
 use Rattle.neighbour.specs.Neighbour.{neighbourOf}
 use Rattle.pins.specs.Pins.{MaskFits, pinnedAt}
+use Rattle.search.specs.declared.Best.{Best}
 use Rattle.search.specs.declared.Move.{Move}
 use Rattle.search.specs.declared.Move.the-variants.{Stay, Toggle, Swap}
 use Rattle.search.specs.Shared.{Shared, shared, Ready, Held}
 use Rattle.search.specs.Search.{FairMove, noMove, evaluateOf}
 use Rattle.search.proofs.Laws.{evaluate-fair}
 use Rattle.moves.specs.declared.Progress.{Progress}
-use Rattle.moves.specs.Moves.{Writable, NamesInk, swapKernels, movedCpe}
-use Rattle.tile.specs.Tile.{State, state, visitOf, refineRow}
+use Rattle.moves.specs.Moves.{Writable, NamesInk, swapKernels, movedIndices, movedCpe, counted}
+use Rattle.tile.specs.Tile.{State, state, applied, visitOf, refineRow}
 use Rattle.tile.proofs.Keeps.{Sound, visit-count}
 
 -- ---- what a visit asks for
@@ -64,6 +65,16 @@ moved-shared T n m p q inks cpp W x y (Swap code) l f = go (neighbourOf code x y
     go : (a : Adjacent) → swapKernels (shared T n p inks cpp) W x y a l f ≡ swapKernels (shared T m q inks cpp) W x y a l f
     go (Pixel nx ny) = refl
     go Outside = refl
+
+-- ---- what a visit does
+
+-- the best move, made and counted
+pub visited : (S : Shared) (W : Rect) (x y : ℕ) (cpe : List Float) (indices : List ℕ) (p : Progress) (b : Best) {cpe′ : List Float} {indices′ : List ℕ} {p′ : Progress} →
+    pinnedAt (S .pinned) (S .tiling .width) x y ≡ false → b ≡ evaluateOf S W cpe indices x y noMove →
+    cpe′ ≡ movedCpe S W x y (b .mv) indices cpe → indices′ ≡ movedIndices (S .tiling) W x y (b .mv) indices → p′ ≡ counted (b .mv) (b .cost) p →
+    state cpe′ indices′ p′ ≡ visitOf S W x y (state cpe indices p)
+unfolding visitOf applied
+visited S W x y cpe indices p b free best field index count = rw (free, field, index, count, best)
 
 -- ---- between two turns
 

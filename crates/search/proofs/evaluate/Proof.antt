@@ -1,18 +1,21 @@
 -- `search::evaluate` meets its contract: the pixel lies in the window, its index names an ink, and the two loops are those of the definition. Assumes nothing.
 use mathlib.Core.Path.{_≡_, refl, ap, _∙_}
-use Prim.Native.Nat.{_<_}
+use Prim.Native.Nat.{_+_, _<_}
 use native.Mathlib.Omega.{arith}
 use borrow.Author.Needs.{needs}
+use lib.Ieee.{neg, ofBits, round}
+use Rattle.base.specs.Limits.{maxInks}
+use Rattle.base.specs.F64.{f64}
 use Rattle.base.specs.Grid.{Inside}
 use Rattle.base.specs.Loop.{upTo}
-use Rattle.search.specs.Search.{noMove, tryToggle, toggles, evaluateOf}
-use lib.Ieee.{neg, ofBits, round}
-use Rattle.base.specs.F64.{f64}
 use Rattle.search.specs.declared.Best.{Best}
 use Rattle.search.specs.declared.Choice.{Choice}
 use Rattle.search.specs.declared.Site.{Site}
+use Rattle.search.specs.Shared.{Shared, shared}
+use Rattle.search.specs.Search.{noMove, tryToggle}
 use Rattle.search.specs.Fast.{bestOf, moveOf}
 use Rattle.search.proofs.Window.{ready-limits, ready-index, held-inside}
+use Rattle.search.proofs.FastLaws.{findable, centres-are, all-fit, swaps-by-places, evaluated}
 use Rattle.search.proofs.evaluate.Statement.{statement}
 use Rattle.search.proofs.evaluate.Tie as tie
 
@@ -20,58 +23,86 @@ best-is : (b : Choice) → _≡_ {A = Best} (record { cost = b .cost; mv = moveO
 unfolding bestOf
 best-is b = refl
 
-start-is : bestOf (record { cost = neg (f64 0x3e112e0be826d695); pick = 264 }) ≡ noMove
+start-is : bestOf (record { cost = neg (f64 0x3e112e0be826d695); pick = maxInks + 8 }) ≡ noMove
 unfolding bestOf moveOf ofBits round
 start-is = refl
 
-inside : (s : tie.Start) → Inside (s .args .w) (s .args .x) (s .args .y)
-inside s = held-inside (s .args .t) (s .args .w) (s .args .x) (s .args .y) (s .pre .1 .0)
+inside : (s : tie.Start) → Inside (s .args .tab .w) (s .args .x) (s .args .y)
+inside s = held-inside (s .args .g .tiling) (s .args .tab .w) (s .args .x) (s .args .y) (s .pre .1 .0)
+
+abbrev entry : tie.After-t → tie.Start
+entry c = c .before .before .before .before .before .before .before
 
 abbrev start : tie.After-index-at → tie.Start
-start c = c .before .before .before .before .before .before .before .before .before
+start c = entry (c .before)
+
+abbrev site : tie.After-best-toggle → tie.After-index-at
+site c = c .before .before .before
+
+abbrev toggled : tie.After-places3 → tie.After-best-toggle
+toggled c = c .before .before .before .before .before
 
 -- the pixel's ink is one of the inks
-ink : (c : tie.After-index-at) → c .index-at .result < start c .args .count
+ink : (c : tie.After-index-at) → c .index-at .result < start c .args .g .inks
 ink c =
     let s = start c in
     omega (arith, c .index-at .ensures, ready-index (s .pre .0) (s .args .x) (s .args .y) (inside s))
 
 index-at-requires : tie.Need-index-at-requires
-index-at-requires c κs =
-    let s = c .before .before .before .before .before .before .before .before in
-    (inside s, (ready-limits (s .pre .0), s .pre .0 .indices-room))
+index-at-requires c κs = let s = entry c in (inside s, (ready-limits (s .pre .0), s .pre .0 .indices-room))
 
 cpe-at-requires : tie.Need-cpe-at-requires
-cpe-at-requires c κs =
-    let s = c .before .before .before .before .before .before .before .before .before in
-    (inside s, (ready-limits (s .pre .0), s .pre .0 .cpe))
+cpe-at-requires c κs = let s = start c in (inside s, (ready-limits (s .pre .0), s .pre .0 .cpe))
 
 mul-values-at : tie.Need-mul-values-at
-mul-values-at c = omega (arith, ink (c .before), c .before .before .before .before .before .before .before .before .before .before .pre .0 .few-inks)
+mul-values-at c = omega (arith, ink (c .before), start (c .before) .pre .0 .few-inks)
 
 values-at-requires : tie.Need-values-at-requires
-values-at-requires c κs = omega (arith, ink (c .before), c .before .before .before .before .before .before .before .before .before .before .pre .0 .inks-room)
+values-at-requires c κs = omega (arith, ink (c .before), start (c .before) .pre .0 .inks-room)
+
+add-t20 : tie.Need-add-t20
+add-t20 c = search needs
 
 best-toggle-requires : tie.Need-best-toggle-requires
-best-toggle-requires c κs = (c .values-at .ensures, (c .before .before .before .before .before .before .before .before .before .before .before .pre .0 .inks-room, c .before .before .before .before .before .before .before .before .before .before .before .pre .0 .few-inks))
+best-toggle-requires c κs = let s = start (c .before .before) in (c .values-at .ensures, (s .pre .0 .inks-room, s .pre .0 .few-inks))
 
-weigh-swaps-requires : tie.Need-weigh-swaps-requires
-weigh-swaps-requires c κs =
-    let s = c .before .before .before .before .before .before .before .before .before .before .before .before in
-    (s .pre .0, (s .pre .1 .0, (s .pre .1 .1 .0, (c .before .values-at .ensures, ink (c .before .before .before)))))
+slice-aggregate-fill-places : tie.Need-slice-aggregate-fill-places
+slice-aggregate-fill-places c = search needs
+
+spot-of-requires : tie.Need-spot-of-requires
+spot-of-requires c κs = let s = start (site (c .before)) in (s .pre .0 .limits, (s .pre .0 .within, s .pre .1 .0))
+
+fill-places-requires : tie.Need-fill-places-requires
+fill-places-requires c κs =
+    let s = start (site (c .before .before)) in
+    (refl, (findable (s .args .tab) (s .pre .0) (s .pre .1 .1), c .spot-of .ensures .2))
+
+slice-aggregate-best-swap : tie.Need-slice-aggregate-best-swap
+slice-aggregate-best-swap c = search needs
+
+best-swap-requires : tie.Need-best-swap-requires
+best-swap-requires c κs =
+    let s = start (site (toggled c)) in
+    let p = c .before .before .before .spot-of .ensures in
+    (toggled c .before .values-at .ensures, all-fit (s .pre .0) (s .args .x) (s .args .y) (s .pre .1 .0) _ (rw (p .0, p .1) at (c .before .before .fill-places .ensures)))
 
 move-of-requires : tie.Need-move-of-requires
 move-of-requires c κs = search needs
 
 returns : tie.Need-returns
-unfolding evaluateOf toggles
 returns c =
-    let a = c .before .before .before .before .before .before .before .before .before .before .before .before .before .before .args in
-    let site : Site = record { k = c .before .before .before .before .before .index-at .result; c = c .before .before .before .before .cpe-at .result } in
-    let all = upTo (tryToggle (a .inks .now) (a .p) site) (a .count) in
-    let toggled : bestOf (c .before .before .best-toggle .result) ≡ all noMove = c .before .before .best-toggle .ensures ∙ ap all start-is in
-    rw (c .move-of .ensures)
-    (best-is (c .before .weigh-swaps .result) ∙ c .before .weigh-swaps .ensures ∙ rw (toggled, c .before .before .before .before .before .before .before .before .before .before .before .before .before .before .pre .1 .1 .1, c .before .before .before .before .cpe-at .ensures, c .before .before .before .before .before .index-at .ensures))
+    let at = c .before .before in
+    let t = toggled at in
+    let i = site t in
+    let s = start i in
+    let a = s .args in
+    let S : Shared = shared (a .g .tiling) (a .g .inks) (a .pinned .now) (a .inks .now) (a .cpp .now) in
+    let k : Site = record { k = i .index-at .result; c = t .before .before .cpe-at .result } in
+    let all = upTo (tryToggle (a .inks .now) (a .tab .centre) k) (a .g .inks) in
+    let p = at .before .before .before .spot-of .ensures in
+    let by-place = swaps-by-places S (a .tab .w) (a .cpe .now) (a .indices .now) (a .x) (a .y) k (i .index-at .ensures) (a .tab) (s .pre .1 .1) _ (rw (p .0, p .1) at (at .before .before .fill-places .ensures)) (bestOf (t .best-toggle .result)) in
+    let whole = evaluated S (a .tab .w) (a .cpe .now) (a .indices .now) (a .x) (a .y) (i .index-at .result) (t .before .before .cpe-at .result) (a .tab .centre) (bestOf (t .best-toggle .result)) (t .best-toggle .ensures ∙ ap all start-is) (centres-are (a .cpp .now) (a .g .tiling) (a .tab) (s .pre .1 .1)) (i .index-at .ensures) (t .before .before .cpe-at .ensures) in
+    rw (c .move-of .ensures) (best-is (c .before .best-swap .result) ∙ c .before .best-swap .ensures ∙ by-place ∙ whole)
 
 pub evaluate-spec : {M : Type 1} → statement M
 evaluate-spec =
@@ -81,7 +112,12 @@ evaluate-spec =
     cpe-at-requires
     mul-values-at
     values-at-requires
+    add-t20
     best-toggle-requires
-    weigh-swaps-requires
+    slice-aggregate-fill-places
+    spot-of-requires
+    fill-places-requires
+    slice-aggregate-best-swap
+    best-swap-requires
     move-of-requires
     returns)

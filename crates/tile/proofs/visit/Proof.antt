@@ -1,15 +1,30 @@
 -- `tile::visit` meets its contract: a fair move is found and made. Assumes nothing.
 use mathlib.Core.Path.{sym, _∙_}
 use mathlib.Core.List.{[]}
-use Rattle.search.specs.Shared.{shared}
-use Rattle.tile.specs.Tile.{visitOf, applied}
-use Rattle.tile.proofs.Walked.{ready-mask, ready-writable, best-names, moved-shared}
 use borrow.Author.Needs.{needs}
+use Rattle.search.specs.Shared.{shared}
+use Rattle.tile.specs.Tile.{visitOf}
+use Rattle.tile.proofs.Walked.{ready-mask, ready-writable, best-names, moved-shared, visited}
 use Rattle.tile.proofs.visit.Statement.{statement}
 use Rattle.tile.proofs.visit.Tie as tie
 
+abbrev entry : tie.After-t → tie.Start
+entry c = c .before .before .before .before .before .before
+
+abbrev pinned : tie.After-evaluate → tie.After-is-pinned
+pinned c = c .before .before .before .before
+
+abbrev start : tie.After-evaluate → tie.Start
+start c = entry (pinned c .before)
+
+abbrev moved : tie.After-slice-known4 → tie.After-apply-move
+moved c = c .before .before .before .before
+
+abbrev found : tie.After-apply-move → tie.After-evaluate
+found c = c .before .before .before
+
 is-pinned-requires : tie.Need-is-pinned-requires
-is-pinned-requires c κs = ready-mask (c .before .before .before .before .before .before .before .before .pre .0) (c .before .before .before .before .before .before .before .before .pre .1 .0)
+is-pinned-requires c κs = ready-mask (entry c .pre .0) (entry c .pre .1 .0)
 
 returns : tie.Need-returns
 unfolding visitOf
@@ -18,24 +33,23 @@ returns c =
     rw flag
 
 evaluate-requires : tie.Need-evaluate-requires
-evaluate-requires c κs =
-    let s = c .before .before .before .before .before .before .before .before .before .before .before .before in
-    (s .pre .0, (s .pre .1 .0, (s .pre .1 .1 .1 .0, s .pre .1 .1 .1 .1)))
+evaluate-requires c κs = search needs
 
 apply-move-requires : tie.Need-apply-move-requires
 apply-move-requires c κs =
-    let a = c .before .before .before .before .before .before .before .before .before .before .before .before .before .before .before .args in
-    let ready = c .before .before .before .before .before .before .before .before .before .before .before .before .before .before .before .pre .0 in (
-      c .before .before .before .before .before .before .before .before .before .before .before .before .before .before .before .pre .1 .0,
+    let e = c .before .before in
+    let s = start e in
+    let a = s .args in (
+      s .pre .1 .0,
       (
-        ready-writable ready,
-        rw (c .before .before .evaluate .ensures)
-            (best-names (shared (a .t) (a .count) (a .pinned .now) (a .inks .now) (a .cpp .now)) (a .w) (a .cpe .now) (a .indices .now) (a .x) (a .y) (ready .inks-room)),
+        ready-writable (s .pre .0),
+        rw (e .evaluate .ensures)
+            (best-names (shared (a .g .tiling) (a .g .inks) (a .pinned .now) (a .inks .now) (a .cpp .now)) (a .tab .w) (a .cpe .now) (a .indices .now) (a .x) (a .y) (s .pre .0 .inks-room)),
       ),
     )
 
 count-move-requires : tie.Need-count-move-requires
-count-move-requires c κs = c .before .before .before .before .before .before .before .before .before .before .before .before .before .before .before .before .before .before .before .before .pre .1 .1 .0
+count-move-requires c κs = start (found (moved c)) .pre .1 .1 .1
 
 same-length : tie.Need-same-length
 same-length c = search needs
@@ -44,12 +58,14 @@ same-length-2 : tie.Need-same-length-2
 same-length-2 c = search needs
 
 returns-2 : tie.Need-returns-2
-unfolding visitOf applied
 returns-2 c =
-    let a = c .before .before .before .before .before .before .before .before .before .before .before .before .before .before .before .before .before .before .before .before .before .args in
-    let free = sym (c .before .before .before .before .before .before .before .before .before .before .before .before .is-pinned .ensures) ∙ c .before .before .before .before .before .before .before .before .before .before .before .if1 .left in
-    let e = c .before .before .before .before .before .before .before .before .evaluate .ensures in
-    rw (free, c .count-move .ensures, c .before .before .before .before .before .apply-move .ensures .1, c .before .before .before .before .before .apply-move .ensures .0, moved-shared (a .t) 0 (a .count) [] (a .pinned .now) (a .inks .now) (a .cpp .now) (a .w) (a .x) (a .y) (c .before .before .before .before .before .before .before .before .evaluate .result .mv) (a .indices .now) (a .cpe .now), e)
+    let m = moved (c .before) in
+    let e = found m in
+    let a = start e .args in
+    let free = sym (pinned e .is-pinned .ensures) ∙ e .before .before .before .if1 .left in
+    let same = moved-shared (a .g .tiling) 0 (a .g .inks) [] (a .pinned .now) (a .inks .now) (a .cpp .now) (a .tab .w) (a .x) (a .y) (e .evaluate .result .mv) (a .indices .now) (a .cpe .now) in
+    visited (shared (a .g .tiling) (a .g .inks) (a .pinned .now) (a .inks .now) (a .cpp .now)) (a .tab .w) (a .x) (a .y) (a .cpe .now) (a .indices .now) (a .p) (e .evaluate .result)
+    free (e .evaluate .ensures) (m .apply-move .ensures .0 ∙ same) (m .apply-move .ensures .1) (c .count-move .ensures)
 
 pub visit-spec : {M : Type 1} → statement M
 visit-spec =
