@@ -7,6 +7,7 @@ use lib.Dec.{eqb}
 use lib.ListN.{length, getD}
 use lib.Ieee.{Float, nan, neg}
 use Rattle.base.specs.declared.Rect.{Rect}
+use Rattle.base.specs.Limits.{cppLength}
 use Rattle.base.specs.Loop.{table}
 use Rattle.base.specs.F64.{_-f_, f64, f0, f1, f2}
 use Rattle.color.specs.Decimal.{decimal}
@@ -25,6 +26,7 @@ use Rattle.search.specs.declared.Move.the-variants.{Stay, Toggle, Swap}
 use Rattle.color.specs.Values.{lessOf}
 use Rattle.search.specs.Shared.{Shared, shared, inkAt, cpeAt}
 use Rattle.search.specs.Search.{noMove, centres, toggleCost, evaluateOf}
+use Rattle.moves.specs.Moves.{progressOf}
 use Rattle.tile.specs.Tile.{State, state, noProgress, refineTile}
 
 -- a case and its outcome
@@ -57,7 +59,7 @@ strip n = tiling n 1 2 4
 
 -- both kernels: v at the centre, else 0
 unfoldable pub handCpp : Tiling → Float → List Float
-handCpp T v = table 8450 (λ i.
+handCpp T v = table cppLength (λ i.
     let centre = eqb i (kernelPlace (lumKernel T) (T .lum) (T .lum)) || eqb i (kernelPlace (chromaKernel T) (T .chroma) (T .chroma)) in
     cond centre v f0)
 
@@ -115,7 +117,7 @@ abbrev best : Move → Float → Best
 best mv cost = record { cost = cost; mv = mv }
 
 abbrev after : List Float → List ℕ → ℕ → Float → State
-after cpe indices accepted delta = state cpe indices (record { accepted = accepted; delta = delta })
+after cpe indices accepted delta = state cpe indices (progressOf accepted delta)
 
 -- ---- the table
 

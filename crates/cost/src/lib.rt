@@ -134,18 +134,6 @@ fn fill_steps(steps: &mut [usize], w: Rect)
     }
 }
 
-// The whole image, whose pixels the mask has.
-pub fn image_rect(t: Tiling) -> Rect
-    ensures { λ r. ⌜ r ≡ image t ⌝ }
-{
-    Rect {
-        x0: 0,
-        y0: 0,
-        x1: t.width,
-        y1: t.height,
-    }
-}
-
 // The tables of a tile on the window w.
 pub fn tables_of(cpp: &[f64], t: Tiling, w: Rect) -> Tables
     requires { ⌜ TablesFit (now cpp) t w ⌝ }
@@ -158,7 +146,7 @@ pub fn tables_of(cpp: &[f64], t: Tiling, w: Rect) -> Tables
     let mut steps = [0usize; 8];
     fill_steps(&mut steps, w);
     let mut marks = [0usize; 8];
-    fill_steps(&mut marks, image_rect(t));
+    fill_steps(&mut marks, tiling::image_rect(t));
     let centre = centres_of(cpp, t);
     Tables {
         w,

@@ -1,6 +1,7 @@
 // The C interface (include/dbs.h): the static library. Numbers pass as themselves, a slice as a pointer
 // and then its number of elements, answers as structs by value. Each function hands on to the crate of its
 // call, whose contract it has.
+use base::Index;
 use base::Status;
 use eye::DbsParams;
 use perceived::Measured;
@@ -8,6 +9,7 @@ use refine::DbsStats;
 use work::DbsWorked;
 ghost use mathlib.Core.List.{[]};
 ghost use mathlib.Core.Path.{_≡_};
+ghost use Rattle.moves.specs.Moves.{progressOf};
 ghost use Rattle.input.specs.Input.{input};
 ghost use Rattle.perceived.specs.Perceived.{measureOf};
 ghost use Rattle.refine.specs.Refine.{refinement, refineOf};
@@ -29,7 +31,7 @@ pub extern "C" fn dbs_refine(
     width: u64,
     height: u64,
     palette: &[u8],
-    indices: &mut [u8],
+    indices: &mut [Index],
     pinned: &[u8],
     ppi: f64,
     viewing_distance_cm: f64,
@@ -68,7 +70,7 @@ pub extern "C" fn perceived_error(
     width: u64,
     height: u64,
     palette: &[u8],
-    indices: &[u8],
+    indices: &[Index],
     ppi: f64,
     viewing_distance_cm: f64,
 ) -> Measured
@@ -89,7 +91,7 @@ pub extern "C" fn dbs_open(
     width: u64,
     height: u64,
     palette: &[u8],
-    indices: &[u8],
+    indices: &[Index],
     pinned: &[u8],
     ppi: f64,
     viewing_distance_cm: f64,
@@ -131,11 +133,11 @@ pub extern "C" fn dbs_open(
 pub extern "C" fn dbs_take(
     record: &[u64],
     tile: u64,
-    indices: &[u8],
+    indices: &[Index],
     cpe: &[f64],
     tile_states: &mut [u8],
     copy_cpe: &mut [f64],
-    copy_indices: &mut [u8],
+    copy_indices: &mut [Index],
 ) -> Status
     ensures { λ s. ⌜ taken s (decode (now («record» .entry))) (now («tile_states» .exit)) (pixels (now («copy_cpe» .exit)) (now («copy_indices» .exit))) ≡ takeRun (now («record» .entry)) tile (pixels (now (cpe .entry)) (now (indices .entry))) (now («tile_states» .entry)) (pixels (now («copy_cpe» .entry)) (now («copy_indices» .entry))) ⌝ }
 {
@@ -158,10 +160,10 @@ pub extern "C" fn dbs_work(
     pinned: &[u8],
     cpp: &[f64],
     copy_cpe: &mut [f64],
-    copy_indices: &mut [u8],
+    copy_indices: &mut [Index],
     inks: &[f64],
 ) -> DbsWorked
-    ensures { λ w. ⌜ worked (status (w .number) (w .place)) (state (now («copy_cpe» .exit)) (now («copy_indices» .exit)) (record { accepted = w .accepted; delta = w .delta })) ≡ workRun (now («record» .entry)) tile (now (pinned .entry)) (now (cpp .entry)) (pixels (now («copy_cpe» .entry)) (now («copy_indices» .entry))) (now (inks .entry)) ⌝ }
+    ensures { λ w. ⌜ worked (status (w .number) (w .place)) (state (now («copy_cpe» .exit)) (now («copy_indices» .exit)) (progressOf (w .accepted) (w .delta))) ≡ workRun (now («record» .entry)) tile (now (pinned .entry)) (now (cpp .entry)) (pixels (now («copy_cpe» .entry)) (now («copy_indices» .entry))) (now (inks .entry)) ⌝ }
 {
     work::work_run(record, tile, pinned, cpp, copy_cpe, copy_indices, inks)
 }
@@ -171,16 +173,16 @@ pub extern "C" fn dbs_work(
 pub extern "C" fn dbs_put_back(
     record: &mut [u64],
     tile: u64,
-    indices: &mut [u8],
+    indices: &mut [Index],
     cpe: &mut [f64],
     tile_states: &mut [u8],
     deltas: &mut [f64],
     copy_cpe: &[f64],
-    copy_indices: &[u8],
+    copy_indices: &[Index],
     accepted: u64,
     delta: f64,
 ) -> Status
-    ensures { λ s. ⌜ putBack s (now («record» .exit)) (pixels (now (cpe .exit)) (now (indices .exit))) (now («tile_states» .exit)) (now (deltas .exit)) ≡ putBackRun (now («record» .entry)) tile (pixels (now (cpe .entry)) (now (indices .entry))) (now («tile_states» .entry)) (now (deltas .entry)) (state (now («copy_cpe» .entry)) (now («copy_indices» .entry)) (record { accepted = accepted; delta = delta })) ⌝ }
+    ensures { λ s. ⌜ putBack s (now («record» .exit)) (pixels (now (cpe .exit)) (now (indices .exit))) (now («tile_states» .exit)) (now (deltas .exit)) ≡ putBackRun (now («record» .entry)) tile (pixels (now (cpe .entry)) (now (indices .entry))) (now («tile_states» .entry)) (now (deltas .entry)) (state (now («copy_cpe» .entry)) (now («copy_indices» .entry)) (progressOf accepted delta)) ⌝ }
 {
     putback::put_back_run(
         record,

@@ -5,6 +5,7 @@ use base::CPP_CHROMA;
 use eye::DbsParams;
 ghost use mathlib.Core.Path.{_≡_};
 ghost use lib.ListN.{length};
+ghost use Rattle.base.specs.Limits.{cppLength};
 ghost use Rattle.base.specs.Refusal.{judge, accepted};
 ghost use Rattle.eye.specs.Eye.{eyeTests, KernelRadius};
 
@@ -144,7 +145,7 @@ const EYES: [u64; 126] = [
 
 // Computes both kernels of an accepted eye into cpp and gives their checksum.
 fn kernels(params: DbsParams, lum_radius: usize, chroma_radius: usize, cpp: &mut [f64]) -> u64
-    requires { ⌜ (judge (eyeTests params) ≡ accepted) × KernelRadius «lum_radius» × KernelRadius «chroma_radius» × (length (now cpp) ≡ 8450) ⌝ }
+    requires { ⌜ (judge (eyeTests params) ≡ accepted) × KernelRadius «lum_radius» × KernelRadius «chroma_radius» × (length (now cpp) ≡ cppLength) ⌝ }
 {
     kernel::eye_kernels(params, cpp);
     let lum_size = 2 * lum_radius + 1;
@@ -164,7 +165,7 @@ fn two(a: u64, b: u64) {
 
 // What a line says of an eye.
 fn answer(params: DbsParams, cpp: &mut [f64])
-    requires { ⌜ length (now cpp) ≡ 8450 ⌝ }
+    requires { ⌜ length (now cpp) ≡ cppLength ⌝ }
 {
     let eye = params.validate();
     let status = eye.status;
@@ -179,7 +180,7 @@ fn answer(params: DbsParams, cpp: &mut [f64])
 }
 
 fn line(ppi: u64, distance: u64, cpp: &mut [f64])
-    requires { ⌜ length (now cpp) ≡ 8450 ⌝ }
+    requires { ⌜ length (now cpp) ≡ cppLength ⌝ }
 {
     io::print_hex(STDOUT, ppi, 16);
     io::write_all(STDOUT, b" ");
@@ -193,7 +194,7 @@ fn line(ppi: u64, distance: u64, cpp: &mut [f64])
 }
 
 fn lines(cpp: &mut [f64])
-    requires { ⌜ length (now cpp) ≡ 8450 ⌝ }
+    requires { ⌜ length (now cpp) ≡ cppLength ⌝ }
 {
     let eyes = EYES;
     for i in 0..COUNT {

@@ -1,5 +1,6 @@
 // Lists of job calls: a line of compare/replay.txt is a call on parts of buffers, and its answer is written in
 // that file's form. One function to a kind of line. In a line, numbers from 0 count its words.
+use base::Index;
 use base::Status;
 use work::DbsWorked;
 ghost use Prim.Native.Nat.{_≤_};
@@ -78,7 +79,7 @@ fn print_words(values: &[u64]) {
     lines::print_sum(checksum::words(values));
 }
 
-fn print_copy(copy_cpe: &[f64], copy_indices: &[u8]) {
+fn print_copy(copy_cpe: &[f64], copy_indices: &[Index]) {
     print_floats(copy_cpe);
     print_bytes(copy_indices);
     lines::end_line();
@@ -149,7 +150,7 @@ pub fn take(
     states: &mut [u8],
     record: &[u64],
     copy_cpe: &mut [f64],
-    copy_indices: &mut [u8],
+    copy_indices: &mut [Index],
 ) {
     let states = lines::part(line, 5, states, 0);
     let copy_cpe = lines::floats(line, 7, copy_cpe, 3 * from(line));
@@ -183,7 +184,7 @@ pub fn work(
     inks: &[f64],
     record: &[u64],
     copy_cpe: &mut [f64],
-    copy_indices: &mut [u8],
+    copy_indices: &mut [Index],
 ) {
     let copy_cpe = lines::floats(line, 7, copy_cpe, 3 * from(line));
     let copy_indices = lines::part(line, 8, copy_indices, from(line));
@@ -202,7 +203,7 @@ pub fn work(
 
 fn print_back(
     s: Status,
-    indices: &[u8],
+    indices: &[Index],
     cpe: &[f64],
     states: &[u8],
     deltas: &[f64],
@@ -225,7 +226,7 @@ pub fn put_back(
     deltas: &mut [f64],
     record: &mut [u64],
     copy_cpe: &[f64],
-    copy_indices: &[u8],
+    copy_indices: &[Index],
 ) {
     let indices = lines::part(line, 5, given, INDICES);
     let cpe = lines::floats(line, 6, cpe, 0);
@@ -279,7 +280,7 @@ pub fn set_word(line: &[u8], record: &mut [u64]) {
 }
 
 // Cell I of the copies' indices is set.
-pub fn set_index(line: &[u8], copy_indices: &mut [u8]) {
+pub fn set_index(line: &[u8], copy_indices: &mut [Index]) {
     let i = lines::number(line, 1);
     if i < copy_indices.len() as u64 {
         copy_indices[i as usize] = lines::clamp(lines::number(line, 2), 255) as u8;

@@ -5,6 +5,7 @@ use Prim.Native.Nat.{ℕ, _+_, _*_, _<_, _≤_}
 use lib.ListN.{getD, length}
 use lib.Ieee.{Float}
 use Rattle.base.specs.declared.Rect.{Rect}
+use Rattle.base.specs.Limits.{maxInks, cppLength}
 use Rattle.base.specs.Grid.{area, Within, put}
 use Rattle.base.specs.F64.{_+f_}
 use Rattle.tiling.specs.declared.Tiling.{Tiling}
@@ -41,9 +42,13 @@ movedCpe S W x y Stay l f = f
 movedCpe S W x y (Toggle j) l f = addKernels (S .cpp) (S .tiling) W x y (lessOf (inkAt S j) (inkAt S (indexAt W l x y))) f
 movedCpe S W x y (Swap code) l f = swapKernels S W x y (neighbourOf code x y (S .tiling .width) (S .tiling .height)) l f
 
+-- the one place where a `Progress` is made
+abbrev pub progressOf : ℕ → Float → Progress
+progressOf accepted delta = record { accepted = accepted; delta = delta }
+
 -- 'adds 1 to the count and its cost to the tile's delta'
 abbrev pub oneMore : Progress → Float → Progress
-oneMore p cost = record { accepted = p .accepted + 1; delta = p .delta +f cost }
+oneMore p cost = progressOf (p .accepted + 1) (p .delta +f cost)
 
 abbrev pub counted : Move → Float → Progress → Progress
 counted Stay cost p = p
@@ -58,8 +63,8 @@ pub record Writable (T : Tiling) (W : Rect) (inks cpp : List Float) (cpe-length 
   pub within : Within (image T) W
   pub cpe : cpe-length ≡ 3 * area W
   pub indices-room : length indices ≡ area W
-  pub inks-room : length inks ≤ 768
-  pub cpp-room : length cpp ≡ 8450
+  pub inks-room : length inks ≤ 3 * maxInks
+  pub cpp-room : length cpp ≡ cppLength
   pub named : (i : ℕ) → i < length indices → 3 * getD indices i 0 + 2 < length inks
 
 -- a toggle names an ink

@@ -1,5 +1,6 @@
 // Making a move: the end of `refine_tile` of dbs.rs, on a window of the image. Coordinates are the
 // image's; `cpe` and `indices` hold the pixels of the window.
+use base::Index;
 use base::Rect;
 use color::YyCxCz;
 use neighbour::Adjacent;
@@ -10,6 +11,7 @@ ghost use mathlib.Core.Path.{_≡_};
 ghost use mathlib.Core.List.{[]};
 ghost use Prim.Native.Nat.{_+_, _*_, _<_, _≤_, _^_};
 ghost use lib.ListN.{length};
+ghost use Rattle.base.specs.Limits.{maxSide, maxInks, cppLength};
 ghost use Rattle.base.specs.Grid.{Inside, Within, area, put};
 ghost use Rattle.tiling.specs.Tiling.{Limits, image};
 ghost use Rattle.neighbour.specs.declared.Adjacent.the-variants.{Pixel};
@@ -44,14 +46,14 @@ fn change(inks: &[f64], j: usize, k: usize) -> YyCxCz
 }
 
 // The index of a pixel of the window becomes j.
-fn put_index(indices: &mut [u8], w: Rect, x: usize, y: usize, j: usize)
+fn put_index(indices: &mut [Index], w: Rect, x: usize, y: usize, j: usize)
     requires { ⌜ Inside w x y ⌝ }
-    requires { ⌜ (w .x1 ≤ 4096) × (w .y1 ≤ 4096) × (j < 256) ⌝ }
+    requires { ⌜ (w .x1 ≤ maxSide) × (w .y1 ≤ maxSide) × (j < maxInks) ⌝ }
     requires { ⌜ length (now indices) ≡ area w ⌝ }
     ensures { λ _. ⌜ now (indices .exit) ≡ put 0 1 w (now (indices .entry)) x y 0 j ⌝ }
 {
     let m = search::local(w, x, y);
-    indices[m] = j as u8;
+    indices[m] = j as Index;
 }
 
 // a times the kernels is added round a pixel of the window.
@@ -59,7 +61,7 @@ fn add_round(cpe: &mut [f64], cpp: &[f64], t: Tiling, w: Rect, x: usize, y: usiz
     requires { ⌜ Inside w x y ⌝ }
     requires { ⌜ Limits t ⌝ }
     requires { ⌜ Within (image t) w ⌝ }
-    requires { ⌜ (length (now cpp) ≡ 8450) × (length (now cpe) ≡ 3 * area w) ⌝ }
+    requires { ⌜ (length (now cpp) ≡ cppLength) × (length (now cpe) ≡ 3 * area w) ⌝ }
     ensures { λ _. ⌜ now (cpe .exit) ≡ addKernels (now (cpp .entry)) t w x y a (now (cpe .entry)) ⌝ }
 {
     sweep::add_kernels(cpe, cpp, t, w, x, y, a);
@@ -68,7 +70,7 @@ fn add_round(cpe: &mut [f64], cpp: &[f64], t: Tiling, w: Rect, x: usize, y: usiz
 // The pixel takes ink j.
 fn toggle_to(
     cpe: &mut [f64],
-    indices: &mut [u8],
+    indices: &mut [Index],
     inks: &[f64],
     cpp: &[f64],
     t: Tiling,
@@ -91,7 +93,7 @@ fn toggle_to(
 // Two pixels exchange their inks.
 fn swap_with(
     cpe: &mut [f64],
-    indices: &mut [u8],
+    indices: &mut [Index],
     inks: &[f64],
     cpp: &[f64],
     t: Tiling,
@@ -125,7 +127,7 @@ fn swap_with(
 // The pixel and its neighbour, if the code names one, exchange their inks.
 fn swap_by(
     cpe: &mut [f64],
-    indices: &mut [u8],
+    indices: &mut [Index],
     inks: &[f64],
     cpp: &[f64],
     t: Tiling,
@@ -148,7 +150,7 @@ fn swap_by(
 // A move of the pixel is made.
 pub fn apply_move(
     cpe: &mut [f64],
-    indices: &mut [u8],
+    indices: &mut [Index],
     inks: &[f64],
     cpp: &[f64],
     t: Tiling,

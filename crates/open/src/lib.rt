@@ -1,4 +1,5 @@
 // Open: everything up to the walk, and a job at its start. `prepare` is also the first half of refining.
+use base::Index;
 use base::Status;
 use eye::DbsParams;
 use eye::Eye;
@@ -25,7 +26,7 @@ fn check(
     width: u64,
     height: u64,
     palette: &[u8],
-    indices: &[u8],
+    indices: &[Index],
     pinned: &[u8],
     params: DbsParams,
     max_passes: u64,
@@ -95,7 +96,7 @@ fn open(
     width: u64,
     height: u64,
     palette: &[u8],
-    indices: &[u8],
+    indices: &[Index],
     pinned: &[u8],
     params: DbsParams,
     max_passes: u64,
@@ -171,7 +172,7 @@ pub fn open_run(
     width: u64,
     height: u64,
     palette: &[u8],
-    indices: &[u8],
+    indices: &[Index],
     pinned: &[u8],
     params: DbsParams,
     max_passes: u64,

@@ -1,5 +1,6 @@
 // Measuring: `perceived_error` of dbs.rs. Tests 1 to 9, ink values, both blurs of the eye, and the error
 // of the halftone seen through them. Pins play no part.
+use base::Index;
 use eye::ALPHA_CHROMA;
 use eye::ALPHA_LUM;
 use eye::DbsParams;
@@ -50,7 +51,7 @@ fn perceived_with(
     width: usize,
     height: usize,
     palette: &[u8],
-    indices: &[u8],
+    indices: &[Index],
     params: DbsParams,
     inks: &mut [f64],
     blur_lum: &mut [f64],
@@ -84,7 +85,7 @@ fn perceived_in(
     width: usize,
     height: usize,
     palette: &[u8],
-    indices: &[u8],
+    indices: &[Index],
     params: DbsParams,
     inks: &mut [f64],
     blur_lum: &mut [f64],
@@ -118,7 +119,7 @@ fn perceived_error(
     width: usize,
     height: usize,
     palette: &[u8],
-    indices: &[u8],
+    indices: &[Index],
     params: DbsParams,
 ) -> f64
     requires { ⌜ judge (inputTests (input width height (now pixels) (now palette) (now indices) [] params)) ≡ accepted ⌝ }
@@ -148,7 +149,7 @@ pub fn measure(
     width: u64,
     height: u64,
     palette: &[u8],
-    indices: &[u8],
+    indices: &[Index],
     params: DbsParams,
 ) -> Measured
     ensures { λ r. ⌜ r ≡ measureOf (input width height (now (pixels .entry)) (now (palette .entry)) (now (indices .entry)) [] params) ⌝ }

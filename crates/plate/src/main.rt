@@ -1,5 +1,6 @@
 // Document 01's program `plate`: a picture of a black and a white pixel, whose halftone has them the
 // wrong way round, is refined; it prints the indices, the passes run and the moves of each pass.
+use base::Index;
 const STDOUT: i32 = 1;
 
 fn number(n: u64) {
@@ -11,7 +12,7 @@ fn print_index(index: u8) {
     number(index as u64);
 }
 
-fn print_indices(indices: &[u8]) {
+fn print_indices(indices: &[Index]) {
     io::write_all(STDOUT, b"indices");
     for i in 0..indices.len() {
         print_index(indices[i]);
@@ -37,7 +38,7 @@ fn print_accepted(accepted_per_pass: &[u32], passes: u64) {
 fn refine_and_print(
     pixels: &[u8],
     palette: &[u8],
-    indices: &mut [u8],
+    indices: &mut [Index],
     cpe: &mut [f64],
     cpp: &mut [f64],
     accepted_per_pass: &mut [u32],

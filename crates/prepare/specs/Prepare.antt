@@ -4,6 +4,7 @@ use mathlib.Core.Path.{_≡_}
 use mathlib.Core.List.{List}
 use Prim.Native.Nat.{ℕ, _*_}
 use lib.Ieee.{Float}
+use Rattle.base.specs.Limits.{cppLength}
 use Rattle.base.specs.Refusal.{judge, accepted}
 use Rattle.tiling.specs.declared.Tiling.{Tiling}
 use Rattle.color.specs.Inks.{inkValues}
@@ -56,7 +57,7 @@ pub record ReadyToPrepare (I : Input) (T : Tiling) (inks cpp cpe : ℕ) : Type 0
   pub passes : judge (inputTests I) ≡ accepted
   pub tiling : T ≡ tilingOf I
   pub inks-length : inks ≡ 3 * inkCount I
-  pub cpp-length : cpp ≡ 8450
+  pub cpp-length : cpp ≡ cppLength
   pub cpe-length : cpe ≡ 3 * pixelCount I
 
 -- the buffers afterwards and the initial error

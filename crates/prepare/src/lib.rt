@@ -1,5 +1,6 @@
 // Everything up to the walk: the first half of `dbs_refine` of dbs.rs. Ink values, kernels, `cpe` and
 // the initial error of an accepted input, into lent buffers.
+use base::Index;
 use eye::DbsParams;
 use tiling::Tiling;
 ghost use mathlib.Core.Path.{_≡_};
@@ -13,7 +14,7 @@ fn prepare_with(
     lut: &[u64; 256],
     pixels: &[u8],
     palette: &[u8],
-    indices: &[u8],
+    indices: &[Index],
     pinned: &[u8],
     params: DbsParams,
     t: Tiling,
@@ -35,7 +36,7 @@ fn prepare_with(
 pub fn prepare(
     pixels: &[u8],
     palette: &[u8],
-    indices: &[u8],
+    indices: &[Index],
     pinned: &[u8],
     params: DbsParams,
     t: Tiling,

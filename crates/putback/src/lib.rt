@@ -1,4 +1,5 @@
 // Put back: a tile's copy is written over its region, its count added and its delta kept.
+use base::Index;
 use base::Status;
 use job::JobRecord;
 use job::TileState;
@@ -10,6 +11,7 @@ ghost use mathlib.Core.Bool.{not, _&&_, _||_};
 ghost use Prim.Native.Nat.{_+_, _*_, _≤_, _<_};
 ghost use lib.Dec.{ltb};
 ghost use lib.ListN.{length};
+ghost use Rattle.moves.specs.Moves.{progressOf};
 ghost use Rattle.base.specs.Grid.{area};
 ghost use Rattle.base.specs.Refusal.{test, judge, next, judgeFrom};
 ghost use Rattle.input.specs.Input.{lengthTest};
@@ -64,16 +66,16 @@ fn check_deltas(s: Status, t: Tiling, deltas_len: usize) -> Status
 fn check_put_back(
     r: JobRecord,
     tile: u64,
-    indices: &[u8],
+    indices: &[Index],
     cpe: &[f64],
     tile_states: &[u8],
     deltas: &[f64],
     copy_cpe: &[f64],
-    copy_indices: &[u8],
+    copy_indices: &[Index],
     accepted: u64,
     delta: f64,
 ) -> Status
-    ensures { λ s. ⌜ s ≡ judge (putBackTests r tile (pixels (now (cpe .entry)) (now (indices .entry))) (now («tile_states» .entry)) (now (deltas .entry)) (state (now («copy_cpe» .entry)) (now («copy_indices» .entry)) (record { accepted = accepted; delta = delta }))) ⌝ }
+    ensures { λ s. ⌜ s ≡ judge (putBackTests r tile (pixels (now (cpe .entry)) (now (indices .entry))) (now («tile_states» .entry)) (now (deltas .entry)) (state (now («copy_cpe» .entry)) (now («copy_indices» .entry)) (progressOf accepted delta))) ⌝ }
 {
     let plan = r.plan;
     let t = plan.tiling;
@@ -90,17 +92,17 @@ fn check_put_back(
 fn write_region(
     t: Tiling,
     tile: usize,
-    indices: &mut [u8],
+    indices: &mut [Index],
     cpe: &mut [f64],
     copy_cpe: &[f64],
-    copy_indices: &[u8],
+    copy_indices: &[Index],
 )
     requires { ⌜ Limits t × (tile < tiles t) ⌝ }
     requires { ⌜ (length (now cpe) ≡ 3 * (t .height * t .width)) × (length (now indices) ≡ t .height * t .width) ⌝ }
     requires { ⌜ (length (now «copy_cpe») ≡ 3 * area (region t tile)) × (length (now «copy_indices») ≡ area (region t tile)) ⌝ }
     ensures { λ _. ⌜ pixels (now (cpe .exit)) (now (indices .exit)) ≡ writtenBack t tile (pixels (now (cpe .entry)) (now (indices .entry))) (pixels (now («copy_cpe» .entry)) (now («copy_indices» .entry))) ⌝ }
 {
-    let image = walk::image_rect(t);
+    let image = tiling::image_rect(t);
     let region = tiling::region_rect(t, tile);
     copy::copy_cpe(copy_cpe, region, cpe, image, region);
     copy::copy_indices(copy_indices, region, indices, image, region);
@@ -110,16 +112,16 @@ fn write_region(
 fn put_back(
     r: JobRecord,
     tile: u64,
-    indices: &mut [u8],
+    indices: &mut [Index],
     cpe: &mut [f64],
     tile_states: &mut [u8],
     deltas: &mut [f64],
     copy_cpe: &[f64],
-    copy_indices: &[u8],
+    copy_indices: &[Index],
     accepted: u64,
     delta: f64,
 ) -> Answer
-    ensures { λ a. ⌜ putBack (a .status) (a .record) (pixels (now (cpe .exit)) (now (indices .exit))) (now («tile_states» .exit)) (now (deltas .exit)) ≡ putBackOf r tile (pixels (now (cpe .entry)) (now (indices .entry))) (now («tile_states» .entry)) (now (deltas .entry)) (state (now («copy_cpe» .entry)) (now («copy_indices» .entry)) (record { accepted = accepted; delta = delta })) ⌝ }
+    ensures { λ a. ⌜ putBack (a .status) (a .record) (pixels (now (cpe .exit)) (now (indices .exit))) (now («tile_states» .exit)) (now (deltas .exit)) ≡ putBackOf r tile (pixels (now (cpe .entry)) (now (indices .entry))) (now («tile_states» .entry)) (now (deltas .entry)) (state (now («copy_cpe» .entry)) (now («copy_indices» .entry)) (progressOf accepted delta)) ⌝ }
 {
     let status = check_put_back(
         r,
@@ -150,16 +152,16 @@ fn put_back(
 pub fn put_back_run(
     record: &mut [u64],
     tile: u64,
-    indices: &mut [u8],
+    indices: &mut [Index],
     cpe: &mut [f64],
     tile_states: &mut [u8],
     deltas: &mut [f64],
     copy_cpe: &[f64],
-    copy_indices: &[u8],
+    copy_indices: &[Index],
     accepted: u64,
     delta: f64,
 ) -> Status
-    ensures { λ s. ⌜ putBack s (now («record» .exit)) (pixels (now (cpe .exit)) (now (indices .exit))) (now («tile_states» .exit)) (now (deltas .exit)) ≡ putBackRun (now («record» .entry)) tile (pixels (now (cpe .entry)) (now (indices .entry))) (now («tile_states» .entry)) (now (deltas .entry)) (state (now («copy_cpe» .entry)) (now («copy_indices» .entry)) (record { accepted = accepted; delta = delta })) ⌝ }
+    ensures { λ s. ⌜ putBack s (now («record» .exit)) (pixels (now (cpe .exit)) (now (indices .exit))) (now («tile_states» .exit)) (now (deltas .exit)) ≡ putBackRun (now («record» .entry)) tile (pixels (now (cpe .entry)) (now (indices .entry))) (now («tile_states» .entry)) (now (deltas .entry)) (state (now («copy_cpe» .entry)) (now («copy_indices» .entry)) (progressOf accepted delta)) ⌝ }
 {
     let run = words::read(record);
     let status = run.status;

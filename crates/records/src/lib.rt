@@ -1,5 +1,6 @@
 // The job record's tests and those that the calls on a job share, in document 01's order. Every test takes
 // any record: what is multiplied has been found within its limits before.
+use base::Index;
 use base::Rect;
 use base::Status;
 use job::JobRecord;
@@ -175,7 +176,7 @@ pub fn check_state(s: Status, tile_states: &[u8], tile: usize, wanted: TileState
 }
 
 // Refusal 6 of a copy.
-pub fn check_named(s: Status, r: JobRecord, copy_indices: &[u8]) -> Status
+pub fn check_named(s: Status, r: JobRecord, copy_indices: &[Index]) -> Status
     ensures { λ u. ⌜ u ≡ next s (copyTest r (now («copy_indices» .entry))) ⌝ }
 {
     let plan = r.plan;

@@ -1,4 +1,5 @@
 // Refining: `dbs_refine` of dbs.rs. Tests 1 to 11, everything up to the walk, and the walk to its end.
+use base::Index;
 use base::Status;
 use eye::DbsParams;
 use tiling::Tiling;
@@ -38,7 +39,7 @@ fn refused(s: Status) -> DbsStats
 fn refine_accepted(
     pixels: &[u8],
     palette: &[u8],
-    indices: &mut [u8],
+    indices: &mut [Index],
     pinned: &[u8],
     params: DbsParams,
     t: Tiling,
@@ -78,7 +79,7 @@ pub fn refine(
     width: u64,
     height: u64,
     palette: &[u8],
-    indices: &mut [u8],
+    indices: &mut [Index],
     pinned: &[u8],
     params: DbsParams,
     max_passes: u64,

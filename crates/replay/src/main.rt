@@ -2,6 +2,7 @@
 // answers in that file's form, to be held to the copy of the Rust. What it reads and must write is made by
 //   grep -E '^(call|open|take|work|put_back|close|word|index) ' compare/replay.txt > crates/replay/stdin
 //   grep -E '^(refine|measure|opened|taken|worked|back|closed) ' compare/replay.txt > crates/replay/stdout
+use base::Index;
 use lists::Given;
 use perceived::Measured;
 use refine::DbsStats;
@@ -43,7 +44,7 @@ fn print_stats(stats: DbsStats) {
 
 fn print_buffers(
     passes: u64,
-    indices: &[u8],
+    indices: &[Index],
     cpe: &[f64],
     cpp: &[f64],
     counts: &[u32],
@@ -73,7 +74,7 @@ fn refine(
     line: &[u8],
     g: Given,
     given: &[u8],
-    indices: &mut [u8],
+    indices: &mut [Index],
     cpe: &mut [f64],
     cpp: &mut [f64],
     counts: &mut [u32],
@@ -119,7 +120,7 @@ fn measure(line: &[u8], g: Given, given: &[u8]) {
 fn call_in(
     text: &[u8],
     given: &mut [u8],
-    indices: &mut [u8],
+    indices: &mut [Index],
     cpe: &mut [f64],
     cpp: &mut [f64],
     counts: &mut [u32],
@@ -173,7 +174,7 @@ fn calls<'a>(
     deltas: &'a mut [f64],
     record: &'a mut [u64],
     copy_cpe: &'a mut [f64],
-    copy_indices: &'a mut [u8],
+    copy_indices: &'a mut [Index],
 ) -> &'a [u64] {
     let mut at = 0;
     while at < text.len() {

@@ -177,7 +177,7 @@ fn spot_of(t: Tiling, w: Rect, x: usize, y: usize) -> Spot
             own,
             amid: true,
             from: local(w, x - 1, y - 1),
-            mark: local(cost::image_rect(t), x - 1, y - 1),
+            mark: local(tiling::image_rect(t), x - 1, y - 1),
         };
     }
     Spot {

@@ -1,5 +1,6 @@
 // Take: a tile's region is copied out and the tile marked out. Rows of `cpe` and of the indices go into
 // parts of the lent copies.
+use base::Index;
 use base::Status;
 use job::JobRecord;
 use job::TileState;
@@ -19,11 +20,11 @@ ghost use Rattle.job.specs.Take.{taken, takeTests, takeOf};
 fn check_take(
     r: JobRecord,
     tile: u64,
-    indices: &[u8],
+    indices: &[Index],
     cpe: &[f64],
     tile_states: &[u8],
     copy_cpe: &[f64],
-    copy_indices: &[u8],
+    copy_indices: &[Index],
 ) -> Status
     ensures { λ s. ⌜ s ≡ judge (takeTests r tile (pixels (now (cpe .entry)) (now (indices .entry))) (now («tile_states» .entry)) (pixels (now («copy_cpe» .entry)) (now («copy_indices» .entry)))) ⌝ }
 {
@@ -40,17 +41,17 @@ fn check_take(
 fn copy_region(
     t: Tiling,
     tile: usize,
-    indices: &[u8],
+    indices: &[Index],
     cpe: &[f64],
     copy_cpe: &mut [f64],
-    copy_indices: &mut [u8],
+    copy_indices: &mut [Index],
 )
     requires { ⌜ Limits t × (tile < tiles t) ⌝ }
     requires { ⌜ (length (now cpe) ≡ 3 * (t .height * t .width)) × (length (now indices) ≡ t .height * t .width) ⌝ }
     requires { ⌜ (length (now «copy_cpe») ≡ 3 * area (region t tile)) × (length (now «copy_indices») ≡ area (region t tile)) ⌝ }
     ensures { λ _. ⌜ pixels (now («copy_cpe» .exit)) (now («copy_indices» .exit)) ≡ copyOf t tile (pixels (now (cpe .entry)) (now (indices .entry))) ⌝ }
 {
-    let image = walk::image_rect(t);
+    let image = tiling::image_rect(t);
     let region = tiling::region_rect(t, tile);
     copy::copy_cpe(cpe, image, copy_cpe, region, region);
     copy::copy_indices(indices, image, copy_indices, region, region);
@@ -60,11 +61,11 @@ fn copy_region(
 fn take(
     r: JobRecord,
     tile: u64,
-    indices: &[u8],
+    indices: &[Index],
     cpe: &[f64],
     tile_states: &mut [u8],
     copy_cpe: &mut [f64],
-    copy_indices: &mut [u8],
+    copy_indices: &mut [Index],
 ) -> Status
     ensures { λ s. ⌜ taken s r (now («tile_states» .exit)) (pixels (now («copy_cpe» .exit)) (now («copy_indices» .exit))) ≡ takeOf r tile (pixels (now (cpe .entry)) (now (indices .entry))) (now («tile_states» .entry)) (pixels (now («copy_cpe» .entry)) (now («copy_indices» .entry))) ⌝ }
 {
@@ -89,11 +90,11 @@ fn take(
 pub fn take_run(
     record: &[u64],
     tile: u64,
-    indices: &[u8],
+    indices: &[Index],
     cpe: &[f64],
     tile_states: &mut [u8],
     copy_cpe: &mut [f64],
-    copy_indices: &mut [u8],
+    copy_indices: &mut [Index],
 ) -> Status
     ensures { λ s. ⌜ taken s (decode (now («record» .entry))) (now («tile_states» .exit)) (pixels (now («copy_cpe» .exit)) (now («copy_indices» .exit))) ≡ takeRun (now («record» .entry)) tile (pixels (now (cpe .entry)) (now (indices .entry))) (now («tile_states» .entry)) (pixels (now («copy_cpe» .entry)) (now («copy_indices» .entry))) ⌝ }
 {

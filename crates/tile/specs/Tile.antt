@@ -13,7 +13,7 @@ use Rattle.search.specs.declared.Best.{Best}
 use Rattle.search.specs.Shared.{Shared}
 use Rattle.search.specs.Search.{noMove, evaluateOf}
 use Rattle.moves.specs.declared.Progress.{Progress}
-use Rattle.moves.specs.Moves.{movedIndices, movedCpe, counted}
+use Rattle.moves.specs.Moves.{progressOf, movedIndices, movedCpe, counted}
 
 -- the pixels of a window, with the moves accepted so far
 pub record State : Type 0 where
@@ -41,7 +41,7 @@ refineRow S W Q y s = fromTo (Q .x0) (Q .x1) (λ x. visitOf S W x y) s
 
 -- 'the tile's delta, which starts at 0.0'
 abbrev pub noProgress : Progress
-noProgress = record { accepted = 0; delta = f0 }
+noProgress = progressOf 0 f0
 
 -- the tile, row by row
 unfoldable pub refineTile : Shared → Rect → Rect → State → State

@@ -25,9 +25,13 @@ pub record Refined : Type 0 where
 abbrev pub refined : List Float → List ℕ → Run → Refined
 refined cpe indices run = record { cpe = cpe; indices = indices; run = run }
 
+-- the one place where a `Run` is made
+abbrev pub runOf : Float → ℕ → Run
+runOf error accepted = record { error = error; accepted = accepted }
+
 -- a refined tile joins: its count is added, and 'the delta joins the error after the tile'
 abbrev pub joined : Run → State → Refined
-joined run s = refined (s .cpe) (s .indices) (record { error = run .error +f s .progress .delta; accepted = run .accepted + s .progress .accepted })
+joined run s = refined (s .cpe) (s .indices) (runOf (run .error +f s .progress .delta) (run .accepted + s .progress .accepted))
 
 -- one tile, 'all on the whole plane'
 unfoldable pub walkTile : Shared → ℕ → Refined → Refined
@@ -59,7 +63,7 @@ abbrev pub passEnd : ℕ → List ℕ → Refined → Walk
 passEnd passes counts r =
     let all = counts ++ (r .run .accepted ∷ []) in
     record {
-      now = refined (r .cpe) (r .indices) (record { error = r .run .error; accepted = 0 });
+      now = refined (r .cpe) (r .indices) (runOf (r .run .error) 0);
       counts = all;
       phase = 0;
       ended = eqb (r .run .accepted) 0 || leb passes (length all);
@@ -80,7 +84,7 @@ walkPhase S passes w =
 -- 'It starts with the starting indices, the field and the initial error, no pass done and a count of 0'; 'With 0 passes allowed .. the walk has ended at its start'
 unfoldable pub walkStart : ℕ → List Float → List ℕ → Float → Walk
 walkStart passes cpe indices error =
-    record { now = refined cpe indices (record { error = error; accepted = 0 }); counts = []; phase = 0; ended = eqb passes 0 }
+    record { now = refined cpe indices (runOf error 0); counts = []; phase = 0; ended = eqb passes 0 }
 
 -- after n phases
 unfoldable pub walkAt : Shared → ℕ → Walk → ℕ → Walk

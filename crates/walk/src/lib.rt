@@ -1,4 +1,5 @@
 // The plain walk: the passes of `dbs_refine` of dbs.rs, tile by tile on the whole image.
+use base::Index;
 use base::Rect;
 use tiling::Tiling;
 ghost use mathlib.Core.Path.{_≡_};
@@ -22,22 +23,10 @@ pub struct Outcome {
     pub error: f64,
 }
 
-// The whole image.
-pub fn image_rect(t: Tiling) -> Rect
-    ensures { λ r. ⌜ r ≡ image t ⌝ }
-{
-    Rect {
-        x0: 0,
-        y0: 0,
-        x1: t.width,
-        y1: t.height,
-    }
-}
-
 // One tile on the whole image: its delta joins the error after it.
 fn walk_tile(
     cpe: &mut [f64],
-    indices: &mut [u8],
+    indices: &mut [Index],
     pinned: &[u8],
     inks: &[f64],
     cpp: &[f64],
@@ -50,7 +39,7 @@ fn walk_tile(
     requires { ⌜ (tile < tiles t) × (run .accepted < 2 ^ 48) ⌝ }
     ensures { λ r. ⌜ refined (now (cpe .exit)) (now (indices .exit)) r ≡ walkTile (shared t count (now (pinned .entry)) (now (inks .entry)) (now (cpp .entry))) tile (refined (now (cpe .entry)) (now (indices .entry)) run) ⌝ }
 {
-    let w = image_rect(t);
+    let w = tiling::image_rect(t);
     let q = tiling::tile_rect(t, tile);
     let p = tile::refine_tile(cpe, indices, pinned, inks, cpp, count, t, w, q);
     Run {
@@ -62,7 +51,7 @@ fn walk_tile(
 // The tile, if it is one of the phase.
 fn walk_try(
     cpe: &mut [f64],
-    indices: &mut [u8],
+    indices: &mut [Index],
     pinned: &[u8],
     inks: &[f64],
     cpp: &[f64],
@@ -85,7 +74,7 @@ fn walk_try(
 // The tiles of a phase in ascending number.
 fn walk_tiles(
     cpe: &mut [f64],
-    indices: &mut [u8],
+    indices: &mut [Index],
     pinned: &[u8],
     inks: &[f64],
     cpp: &[f64],
@@ -111,7 +100,7 @@ fn walk_tiles(
 // The four phases of a pass, from no moves accepted.
 fn walk_pass(
     cpe: &mut [f64],
-    indices: &mut [u8],
+    indices: &mut [Index],
     pinned: &[u8],
     inks: &[f64],
     cpp: &[f64],
@@ -141,7 +130,7 @@ fn store_count(accepted_per_pass: &mut [u32], pass: usize, accepted: usize)
 // As many passes as there are counts, or until one accepts no move: the walk from its start to its end.
 pub fn refine_passes(
     cpe: &mut [f64],
-    indices: &mut [u8],
+    indices: &mut [Index],
     pinned: &[u8],
     inks: &[f64],
     cpp: &[f64],

@@ -1,5 +1,6 @@
 // Work: a tile refined on its copy, by the same `refine_tile` as in the plain walk. It touches no job
 // state, so that workers may run it at the same time, each on its own copy.
+use base::Index;
 use base::Status;
 use job::JobRecord;
 ghost use mathlib.Core.Path.{_≡_};
@@ -7,6 +8,7 @@ ghost use mathlib.Core.Bool.{not};
 ghost use mathlib.Core.List.{[], _∷_};
 ghost use Prim.Native.Nat.{_*_};
 ghost use lib.Dec.{ltb};
+ghost use Rattle.moves.specs.Moves.{progressOf};
 ghost use Rattle.base.specs.F64.{f0};
 ghost use Rattle.base.specs.Limits.{cppLength};
 ghost use Rattle.base.specs.Refusal.{test, judge, judgeFrom, status};
@@ -44,7 +46,7 @@ fn check_lent(s: Status, r: JobRecord, tile: u64, pinned_len: usize, cpp_len: us
 }
 
 // Refusal 11 of the ink values, and 6.
-fn check_inks(s: Status, r: JobRecord, inks_len: usize, copy_indices: &[u8]) -> Status
+fn check_inks(s: Status, r: JobRecord, inks_len: usize, copy_indices: &[Index]) -> Status
     requires { ⌜ (s .number ≡ 0 → ValidRecord r) ⌝ }
     ensures { λ u. ⌜ u ≡ judgeFrom s (lengthTest 8 «inks_len» (3 * r .plan .inks) ∷ copyTest r (now («copy_indices» .entry)) ∷ []) ⌝ }
 {
@@ -63,7 +65,7 @@ fn check_work(
     pinned: &[u8],
     cpp: &[f64],
     copy_cpe: &[f64],
-    copy_indices: &[u8],
+    copy_indices: &[Index],
     inks: &[f64],
 ) -> Status
     ensures { λ s. ⌜ s ≡ judge (workTests r tile (now (pinned .entry)) (now (cpp .entry)) (pixels (now («copy_cpe» .entry)) (now («copy_indices» .entry))) (now (inks .entry))) ⌝ }
@@ -100,10 +102,10 @@ fn work(
     pinned: &[u8],
     cpp: &[f64],
     copy_cpe: &mut [f64],
-    copy_indices: &mut [u8],
+    copy_indices: &mut [Index],
     inks: &[f64],
 ) -> DbsWorked
-    ensures { λ w. ⌜ worked (status (w .number) (w .place)) (state (now («copy_cpe» .exit)) (now («copy_indices» .exit)) (record { accepted = w .accepted; delta = w .delta })) ≡ workOf r tile (now (pinned .entry)) (now (cpp .entry)) (pixels (now («copy_cpe» .entry)) (now («copy_indices» .entry))) (now (inks .entry)) ⌝ }
+    ensures { λ w. ⌜ worked (status (w .number) (w .place)) (state (now («copy_cpe» .exit)) (now («copy_indices» .exit)) (progressOf (w .accepted) (w .delta))) ≡ workOf r tile (now (pinned .entry)) (now (cpp .entry)) (pixels (now («copy_cpe» .entry)) (now («copy_indices» .entry))) (now (inks .entry)) ⌝ }
 {
     let status = check_work(r, tile, pinned, cpp, copy_cpe, copy_indices, inks);
     if status.number != 0 {
@@ -139,10 +141,10 @@ pub fn work_run(
     pinned: &[u8],
     cpp: &[f64],
     copy_cpe: &mut [f64],
-    copy_indices: &mut [u8],
+    copy_indices: &mut [Index],
     inks: &[f64],
 ) -> DbsWorked
-    ensures { λ w. ⌜ worked (status (w .number) (w .place)) (state (now («copy_cpe» .exit)) (now («copy_indices» .exit)) (record { accepted = w .accepted; delta = w .delta })) ≡ workRun (now («record» .entry)) tile (now (pinned .entry)) (now (cpp .entry)) (pixels (now («copy_cpe» .entry)) (now («copy_indices» .entry))) (now (inks .entry)) ⌝ }
+    ensures { λ w. ⌜ worked (status (w .number) (w .place)) (state (now («copy_cpe» .exit)) (now («copy_indices» .exit)) (progressOf (w .accepted) (w .delta))) ≡ workRun (now («record» .entry)) tile (now (pinned .entry)) (now (cpp .entry)) (pixels (now («copy_cpe» .entry)) (now («copy_indices» .entry))) (now (inks .entry)) ⌝ }
 {
     let run = words::read(record);
     let status = run.status;

@@ -2,6 +2,7 @@
 use native.Mathlib.Omega.{arith}
 use mathlib.Core.Path.{_≡_, ap, _∙_}
 use lib.ListN.{set}
+use Rattle.moves.specs.Moves.{progressOf}
 use Rattle.base.specs.declared.Status.{Status}
 use Rattle.base.specs.Refusal.{judge}
 use Rattle.tile.specs.Tile.{State, state}
@@ -23,7 +24,7 @@ abbrev image : tie.Start → Pixels
 image s = pixels (s .args .cpe .now) (s .args .indices .now)
 
 abbrev brought : tie.Start → State
-brought s = state (s .args .copy-cpe .now) (s .args .copy-indices .now) (record { accepted = s .args .accepted; delta = s .args .delta })
+brought s = state (s .args .copy-cpe .now) (s .args .copy-indices .now) (progressOf (s .args .accepted) (s .args .delta))
 
 valid : (s : tie.Start) {u : Status} → u ≡ judge (putBackTests (s .args .r) (s .args .tile) (image s) (s .args .tile-states .now) (s .args .deltas .now) (brought s)) → u .number ≡ 0 →
     ValidPutBack (s .args .r) (s .args .tile) (image s) (s .args .tile-states .now) (s .args .deltas .now) (brought s)
@@ -114,7 +115,7 @@ returns-2 c =
     let s = start t in
     let a = s .args in
     rw (c .before .state-byte .ensures)
-    (ap (λ p. putBack (t .check-put-back .result) (withProgress (a .r) (record { accepted = a .accepted; delta = a .delta })) p (set (a .tile-states .now) (a .tile) 2) (set (a .deltas .now) (a .tile) (a .delta)))
+    (ap (λ p. putBack (t .check-put-back .result) (withProgress (a .r) (progressOf (a .accepted) (a .delta))) p (set (a .tile-states .now) (a .tile) 2) (set (a .deltas .now) (a .tile) (a .delta)))
     (c .before .before .before .before .before .before .write-region .ensures)
     ∙ putBack-answers (a .r) (a .tile) (image s) (a .tile-states .now) (a .deltas .now) (brought s) .made _ (t .check-put-back .ensures) (k .if1 .left))
 
