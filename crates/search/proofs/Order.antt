@@ -9,7 +9,7 @@ use lib.Ieee.{Float, nan, inf, fin, up, down, below, lt}
 use lib.Ieee.Fits.{down-pos}
 use lib.Ieee.Positive.{first-pos}
 
-no : {A : Type 0} → false ≡ true → A
+pub no : {A : Type 0} → false ≡ true → A
 no e = let z : _≡_ {A = ℕ} 0 1 = cc in absurd (omega arith)
 
 -- a / e < b / d < c / f

@@ -11,6 +11,7 @@ use Rattle.color.specs.declared.YyCxCz.{YyCxCz}
 use Rattle.color.specs.Values.{valuesAt}
 use Rattle.tiling.specs.declared.Tiling.{Tiling}
 use Rattle.tiling.specs.Tiling.{image, Limits}
+use Rattle.search.specs.declared.Setup.{Setup}
 
 pub record Shared : Type 0 where
   pub tiling : Tiling  -- the image's size and the kernels' radii
@@ -21,6 +22,10 @@ pub record Shared : Type 0 where
 
 abbrev pub shared : Tiling → ℕ → List ℕ → List Float → List Float → Shared
 shared T count pinned inks cpp = record { tiling = T; count = count; pinned = pinned; inks = inks; cpp = cpp }
+
+-- the same of what the code has
+abbrev pub sharedOf : Setup → List ℕ → List Float → List Float → Shared
+sharedOf g pinned inks cpp = shared (g .tiling) (g .inks) pinned inks cpp
 
 -- ink j
 abbrev pub inkAt : Shared → ℕ → YyCxCz

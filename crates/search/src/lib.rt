@@ -16,7 +16,7 @@ ghost use Rattle.base.specs.Grid.{Inside, Within, area};
 ghost use Rattle.base.specs.Loop.{upTo, table};
 ghost use Rattle.tiling.specs.Tiling.{Limits, image};
 ghost use Rattle.cost.specs.Tables.{tablesOf};
-ghost use Rattle.search.specs.Shared.{shared, cpeAt, indexAt, Ready, Held};
+ghost use Rattle.search.specs.Shared.{sharedOf, cpeAt, indexAt, Ready, Held};
 ghost use Rattle.search.specs.Fast.{bestOf, moveOf, Inked, partnerPlace, Findable, Spotted, swapBy, SwapFits, swapsBy, AllFit};
 ghost use Rattle.search.specs.Search.{betterOf, noMove, tryToggle, evaluateOf};
 
@@ -326,10 +326,10 @@ pub fn evaluate(
     x: usize,
     y: usize,
 ) -> Best
-    requires { ⌜ Ready (shared (g .tiling) (g .inks) (now pinned) (now inks) (now cpp)) (tab .w) (length (now cpe)) (now indices) ⌝ }
+    requires { ⌜ Ready (sharedOf g (now pinned) (now inks) (now cpp)) (tab .w) (length (now cpe)) (now indices) ⌝ }
     requires { ⌜ Held (g .tiling) (tab .w) x y ⌝ }
     requires { ⌜ tab ≡ tablesOf (now cpp) (g .tiling) (tab .w) ⌝ }
-    ensures { λ r. ⌜ r ≡ evaluateOf (shared (g .tiling) (g .inks) (now (pinned .entry)) (now (inks .entry)) (now (cpp .entry))) (tab .w) (now (cpe .entry)) (now (indices .entry)) x y noMove ⌝ }
+    ensures { λ r. ⌜ r ≡ evaluateOf (sharedOf g (now (pinned .entry)) (now (inks .entry)) (now (cpp .entry))) (tab .w) (now (cpe .entry)) (now (indices .entry)) x y noMove ⌝ }
 {
     let w = tab.w;
     let t = g.tiling;

@@ -10,7 +10,7 @@ use tiling::Tiling;
 ghost use mathlib.Core.Path.{_≡_};
 ghost use Prim.Native.Nat.{_<_, _≤_, _^_};
 ghost use lib.ListN.{length};
-ghost use Rattle.search.specs.Shared.{shared, Ready, Held};
+ghost use Rattle.search.specs.Shared.{shared, sharedOf, Ready, Held};
 ghost use Rattle.cost.specs.Tables.{tablesOf};
 ghost use Rattle.tile.specs.Tile.{state, visitOf, refineRow, refineTile, noProgress, Covers};
 
@@ -27,11 +27,11 @@ fn visit(
     y: usize,
     p: Progress,
 ) -> Progress
-    requires { ⌜ Ready (shared (g .tiling) (g .inks) (now pinned) (now inks) (now cpp)) (tab .w) (length (now cpe)) (now indices) ⌝ }
+    requires { ⌜ Ready (sharedOf g (now pinned) (now inks) (now cpp)) (tab .w) (length (now cpe)) (now indices) ⌝ }
     requires { ⌜ Held (g .tiling) (tab .w) x y ⌝ }
     requires { ⌜ tab ≡ tablesOf (now cpp) (g .tiling) (tab .w) ⌝ }
     requires { ⌜ p .accepted < 2 ^ 62 ⌝ }
-    ensures { λ r. ⌜ state (now (cpe .exit)) (now (indices .exit)) r ≡ visitOf (shared (g .tiling) (g .inks) (now (pinned .entry)) (now (inks .entry)) (now (cpp .entry))) (tab .w) x y (state (now (cpe .entry)) (now (indices .entry)) p) ⌝ }
+    ensures { λ r. ⌜ state (now (cpe .exit)) (now (indices .exit)) r ≡ visitOf (sharedOf g (now (pinned .entry)) (now (inks .entry)) (now (cpp .entry))) (tab .w) x y (state (now (cpe .entry)) (now (indices .entry)) p) ⌝ }
 {
     let t = g.tiling;
     if pins::is_pinned(pinned, t.width, x, y) {
@@ -56,11 +56,11 @@ fn refine_row(
     y: usize,
     p: Progress,
 ) -> Progress
-    requires { ⌜ Ready (shared (g .tiling) (g .inks) (now pinned) (now inks) (now cpp)) (tab .w) (length (now cpe)) (now indices) ⌝ }
+    requires { ⌜ Ready (sharedOf g (now pinned) (now inks) (now cpp)) (tab .w) (length (now cpe)) (now indices) ⌝ }
     requires { ⌜ Covers (g .tiling) (tab .w) q ⌝ }
     requires { ⌜ tab ≡ tablesOf (now cpp) (g .tiling) (tab .w) ⌝ }
     requires { ⌜ (q .y0 ≤ y) × (y < q .y1) × (p .accepted < 2 ^ 61) ⌝ }
-    ensures { λ r. ⌜ state (now (cpe .exit)) (now (indices .exit)) r ≡ refineRow (shared (g .tiling) (g .inks) (now (pinned .entry)) (now (inks .entry)) (now (cpp .entry))) (tab .w) q y (state (now (cpe .entry)) (now (indices .entry)) p) ⌝ }
+    ensures { λ r. ⌜ state (now (cpe .exit)) (now (indices .exit)) r ≡ refineRow (sharedOf g (now (pinned .entry)) (now (inks .entry)) (now (cpp .entry))) (tab .w) q y (state (now (cpe .entry)) (now (indices .entry)) p) ⌝ }
 {
     let end = q.x1;
     let mut x = q.x0;
@@ -83,10 +83,10 @@ fn refine_rows(
     tab: Tables,
     q: Rect,
 ) -> Progress
-    requires { ⌜ Ready (shared (g .tiling) (g .inks) (now pinned) (now inks) (now cpp)) (tab .w) (length (now cpe)) (now indices) ⌝ }
+    requires { ⌜ Ready (sharedOf g (now pinned) (now inks) (now cpp)) (tab .w) (length (now cpe)) (now indices) ⌝ }
     requires { ⌜ Covers (g .tiling) (tab .w) q ⌝ }
     requires { ⌜ tab ≡ tablesOf (now cpp) (g .tiling) (tab .w) ⌝ }
-    ensures { λ r. ⌜ state (now (cpe .exit)) (now (indices .exit)) r ≡ refineTile (shared (g .tiling) (g .inks) (now (pinned .entry)) (now (inks .entry)) (now (cpp .entry))) (tab .w) q (state (now (cpe .entry)) (now (indices .entry)) noProgress) ⌝ }
+    ensures { λ r. ⌜ state (now (cpe .exit)) (now (indices .exit)) r ≡ refineTile (sharedOf g (now (pinned .entry)) (now (inks .entry)) (now (cpp .entry))) (tab .w) q (state (now (cpe .entry)) (now (indices .entry)) noProgress) ⌝ }
 {
     let end = q.y1;
     let mut y = q.y0;

@@ -43,8 +43,9 @@ loop-less c = search needs
 
 loop-again : tie.Need-loop-again Inv-loop μ-loop
 loop-again c =
-    let at = c .before .before .loop in
-    let s = c .before .before .before .before .before .before in
+    let turn = c .before .before in
+    let at = turn .loop in
+    let s = turn .before .before .before .before in
     (search needs, rw length-set (at .inv .1), at .inv .2, fill-turn nan (at .code) (gapOf (s .args .cpp .now) (s .args .k)) (s .args .gaps .now) (at .gaps) _ (omega (arith, c .before .loop-test .taken, s .pre .0)) (at .inv .3) (rw (at .inv .2, c .kernel-beside .ensures)))
 
 same-length : tie.Need-same-length Inv-loop μ-loop

@@ -3,6 +3,7 @@ use mathlib.Core.Path.{_≡_, sym, _∙_, subst}
 use Prim.Native.Nat.{_-_, _*_, _≤_}
 use native.Mathlib.Omega.{arith}
 use borrow.Author.Needs.{needs}
+use Rattle.base.specs.Limits.{maxPixels}
 use Rattle.base.proofs.Bounds.{image-product}
 use Rattle.neighbour.specs.Neighbour.{neighbourOf}
 use Rattle.neighbour.specs.declared.Adjacent.the-variants.{Pixel}
@@ -20,7 +21,7 @@ found c = sym (c .before .before .neighbour .ensures) ∙ c .x .given .1
 beside : (c : tie.After-x) → Beyond 1 1 3 3 (Pixel (c .x .given .0 .0) (c .x .given .0 .1 .0))
 beside c = subst (Beyond 1 1 3 3) (found c) (near-by (start c .args .code) 1 1 3 3 (omega arith) (omega arith))
 
-small : (c : tie.After-x) → (c .x .given .0 .1 .0) * (start c .args .w .x1 - start c .args .w .x0) ≤ 16777216
+small : (c : tie.After-x) → (c .x .given .0 .1 .0) * (start c .args .w .x1 - start c .args .w .x0) ≤ maxPixels
 small c = image-product _ _ (omega (arith, beside c .1 .under)) (omega (arith, start c .pre))
 
 neighbour-requires : tie.Need-neighbour-requires

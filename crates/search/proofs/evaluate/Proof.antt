@@ -11,7 +11,7 @@ use Rattle.base.specs.Loop.{upTo}
 use Rattle.search.specs.declared.Best.{Best}
 use Rattle.search.specs.declared.Choice.{Choice}
 use Rattle.search.specs.declared.Site.{Site}
-use Rattle.search.specs.Shared.{Shared, shared}
+use Rattle.search.specs.Shared.{Shared, sharedOf}
 use Rattle.search.specs.Search.{noMove, tryToggle}
 use Rattle.search.specs.Fast.{bestOf, moveOf}
 use Rattle.search.proofs.Window.{ready-limits, ready-index, held-inside}
@@ -31,7 +31,10 @@ inside : (s : tie.Start) → Inside (s .args .tab .w) (s .args .x) (s .args .y)
 inside s = held-inside (s .args .g .tiling) (s .args .tab .w) (s .args .x) (s .args .y) (s .pre .1 .0)
 
 abbrev entry : tie.After-t → tie.Start
-entry c = c .before .before .before .before .before .before .before
+entry c =
+    let earlier-2 = c .before .before .before .before .before in
+    let earlier = earlier-2 .before .before in
+    earlier
 
 abbrev start : tie.After-index-at → tie.Start
 start c = entry (c .before)
@@ -96,7 +99,7 @@ returns c =
     let i = site t in
     let s = start i in
     let a = s .args in
-    let S : Shared = shared (a .g .tiling) (a .g .inks) (a .pinned .now) (a .inks .now) (a .cpp .now) in
+    let S : Shared = sharedOf (a .g) (a .pinned .now) (a .inks .now) (a .cpp .now) in
     let k : Site = record { k = i .index-at .result; c = t .before .before .cpe-at .result } in
     let all = upTo (tryToggle (a .inks .now) (a .tab .centre) k) (a .g .inks) in
     let p = at .before .before .before .spot-of .ensures in

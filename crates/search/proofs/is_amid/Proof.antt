@@ -1,15 +1,10 @@
 -- `search::is_amid` meets its contract: past every test the four bounds hold. Assumes nothing.
-use mathlib.Core.Path.{_≡_, sym, subst}
-use mathlib.Core.Bool.{true, false}
 use native.Mathlib.Omega.{arith}
 use borrow.Author.Needs.{needs}
 use borrow.Author.Tests.{ltb-true}
-use lib.Dec.{T}
+use Rattle.search.proofs.Order.{no}
 use Rattle.search.proofs.is_amid.Statement.{statement}
 use Rattle.search.proofs.is_amid.Tie as tie
-
-no : {A : Type 0} → false ≡ true → A
-no e = absurd (subst T (sym e) tt)
 
 returns : tie.Need-returns
 returns c = λ e. no e

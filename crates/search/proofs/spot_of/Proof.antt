@@ -1,12 +1,11 @@
 -- `search::spot_of` meets its contract: past the test all eight neighbours lie in the image, and so does the pixel above and left. Assumes nothing.
-use mathlib.Core.Path.{_≡_, refl, sym, subst}
-use mathlib.Core.Bool.{true, false}
+use mathlib.Core.Path.{refl}
 use Prim.Native.Nat.{_+_, _-_, _<_, _≤_}
 use native.Mathlib.Omega.{arith}
-use lib.Dec.{T}
 use borrow.Author.Needs.{needs}
 use Rattle.base.specs.Grid.{Inside}
 use Rattle.search.proofs.Window.{window-limits, image-limits, image-inside, held-inside}
+use Rattle.search.proofs.Order.{no}
 use Rattle.search.proofs.spot_of.Statement.{statement}
 use Rattle.search.proofs.spot_of.Tie as tie
 
@@ -23,9 +22,6 @@ inside c =
     let h = s .pre .1 .1 in
     let i = held-inside _ _ _ _ h in
     record { left = h .left; right = omega (arith, i .right, amid c .0); top = h .top; bottom = omega (arith, i .bottom, amid c .2) }
-
-no : {A : Type 0} → false ≡ true → A
-no e = absurd (subst T (sym e) tt)
 
 local-requires : tie.Need-local-requires
 local-requires c κs = (held-inside _ _ _ _ (c .pre .1 .1), window-limits (c .args .t) (c .args .w) (c .pre .0) (c .pre .1 .0))

@@ -7,6 +7,12 @@ use Rattle.search.proofs.FastLaws.{move-swap}
 use Rattle.search.proofs.swap_at.Statement.{statement}
 use Rattle.search.proofs.swap_at.Tie as tie
 
+abbrev start : tie.Else1 → tie.Start
+start c =
+    let earlier-2 = c .before .before .before .before .before in
+    let earlier = earlier-2 .before in
+    earlier
+
 shared-slice-read-kn : tie.Need-shared-slice-read-kn
 shared-slice-read-kn c = search needs
 
@@ -44,15 +50,17 @@ better-requires c κs = search needs
 returns-2 : tie.Need-returns-2
 unfolding swapBy
 returns-2 c =
+    let other = c .before .before .before .before .before in
+    let s = start other in
     rw (
-      ne-eqb _ _ (c .before .before .before .before .before .if1 .left),
+      ne-eqb _ _ (other .if1 .left),
       c .better .ensures,
       c .before .swap-cost .ensures,
       c .before .before .values-at2 .ensures,
       c .before .before .before .less .ensures,
       c .before .before .before .before .values-at .ensures,
-      c .before .before .before .before .before .before .before .before .before .before .before .pre .0,
-      move-swap _ (c .before .before .before .before .before .before .before .before .before .before .before .pre .1 .1),
+      s .pre .0,
+      move-swap _ (s .pre .1 .1),
     )
 
 pub swap-at-spec : {M : Type 1} → statement M

@@ -34,14 +34,16 @@ better-requires c κs = search needs
 returns-2 : tie.Need-returns-2
 unfolding tryToggle
 returns-2 c =
+    let other = c .before .before .before .before in
+    let s = other .before .before .before in
     rw (
-      ne-eqb _ _ (c .before .before .before .before .if1 .left),
+      ne-eqb _ _ (other .if1 .left),
       c .better .ensures,
       c .before .toggle-cost .ensures,
       c .before .before .less .ensures,
       c .before .before .before .values-at .ensures,
-      c .before .before .before .before .before .before .before .pre .0,
-      move-toggle _ (c .before .before .before .before .before .before .before .pre .1 .1),
+      s .pre .0,
+      move-toggle _ (s .pre .1 .1),
     )
 
 pub try-toggle-spec : {M : Type 1} → statement M

@@ -2,24 +2,18 @@
 use mathlib.Core.Path.{_≡_, sym, _∙_}
 use Prim.Native.Nat.{ℕ, _+_, _-_, _≤_}
 use native.Mathlib.Omega.{arith}
-use mathlib.Core.List.{List}
 use lib.ListN.{length}
-use lib.Ieee.{Float}
 use borrow.Author.Needs.{needs}
 use Rattle.base.specs.declared.Rect.{Rect}
 use Rattle.base.specs.Grid.{Inside}
 use Rattle.base.specs.Loop.{fromTo}
 use Rattle.base.proofs.LoopLaws.{fromTo-none, fromTo-more}
-use Rattle.search.specs.Shared.{Shared, shared}
-use Rattle.search.specs.declared.Setup.{Setup}
+use Rattle.search.specs.Shared.{Shared, sharedOf}
 use Rattle.tile.specs.Tile.{State, state, visitOf, refineRow}
 use Rattle.tile.proofs.Keeps.{covers-held, visit-sound}
 use Rattle.tile.proofs.Walked.{Walked, walked-none, walked-more, ready-again, visit-most}
 use Rattle.tile.proofs.refine_row.Statement.{statement}
 use Rattle.tile.proofs.refine_row.Tie as tie
-
-abbrev world : Setup → List ℕ → List Float → List Float → Shared
-world g pinned inks cpp = shared (g .tiling) (g .inks) pinned inks cpp
 
 -- the row up to column x
 abbrev done : Shared → Rect → ℕ → ℕ → ℕ → State → State
@@ -27,7 +21,7 @@ done S W y from x s = fromTo from x (λ x. visitOf S W x y) s
 
 abbrev Inv-loop : tie.InvT-loop
 Inv-loop cpe₀ indices₀ pinned inks cpp g tab y end x₀ n₀ cpe indices x n =
-    let S = world g pinned inks cpp in
+    let S = sharedOf g pinned inks cpp in
     (x₀ ≤ x) × (x ≤ end) × Walked S (tab .w) (x - x₀) cpe₀ indices₀ n₀ cpe indices n (done S (tab .w) y x₀ x (state cpe₀ indices₀ n₀))
 
 abbrev μ-loop : tie.MeasureT-loop
@@ -40,7 +34,10 @@ abbrev start : tie.In-loop Inv-loop μ-loop → tie.Start Inv-loop μ-loop
 start c = entry (c .before .before)
 
 abbrev turn : tie.After-slice-known4 Inv-loop μ-loop → tie.In-loop Inv-loop μ-loop
-turn c = c .before .before .before .before .before .before .before
+turn c =
+    let earlier-2 = c .before .before .before .before .before in
+    let earlier = earlier-2 .before .before in
+    earlier
 
 -- the pixel of this turn lies in the tile
 inside : (c : tie.In-loop Inv-loop μ-loop) → Inside (start c .args .q) (c .before .loop .x) (start c .args .y)
@@ -74,7 +71,7 @@ loop-again c =
     let l = at .before .loop in
     let s = start at in
     let a = s .args in
-    let S : Shared = world (a .g) (a .pinned .now) (a .inks .now) (a .cpp .now) in
+    let S : Shared = sharedOf (a .g) (a .pinned .now) (a .inks .now) (a .cpp .now) in
     let h = l .inv .0 in
     let k : l .x + 1 - a .q .x0 ≡ l .x - a .q .x0 + 1 = omega (arith, h) in
     let now : State = state (l .cpe) (l .indices) (l .n) in

@@ -2,24 +2,18 @@
 use mathlib.Core.Path.{_≡_, sym, _∙_}
 use Prim.Native.Nat.{ℕ, _+_, _-_, _*_, _≤_}
 use native.Mathlib.Omega.{arith}
-use mathlib.Core.List.{List}
 use lib.ListN.{length}
-use lib.Ieee.{Float}
 use borrow.Author.Needs.{needs}
 use Rattle.base.specs.declared.Rect.{Rect}
 use Rattle.base.specs.Limits.{maxSide}
 use Rattle.base.specs.Loop.{fromTo}
 use Rattle.base.proofs.LoopLaws.{fromTo-none, fromTo-more}
-use Rattle.search.specs.Shared.{Shared, shared}
-use Rattle.search.specs.declared.Setup.{Setup}
+use Rattle.search.specs.Shared.{Shared, sharedOf}
 use Rattle.tile.specs.Tile.{State, state, refineRow, refineTile}
 use Rattle.tile.proofs.Keeps.{row-sound}
 use Rattle.tile.proofs.Walked.{Walked, walked-none, walked-more, ready-again, row-most}
 use Rattle.tile.proofs.refine_rows.Statement.{statement}
 use Rattle.tile.proofs.refine_rows.Tie as tie
-
-abbrev world : Setup → List ℕ → List Float → List Float → Shared
-world g pinned inks cpp = shared (g .tiling) (g .inks) pinned inks cpp
 
 -- the rows above row y
 abbrev done : Shared → Rect → Rect → ℕ → ℕ → State → State
@@ -27,7 +21,7 @@ done S W Q from y s = fromTo from y (refineRow S W Q) s
 
 abbrev Inv-loop : tie.InvT-loop
 Inv-loop cpe₀ indices₀ pinned inks cpp g tab q end y₀ n₀ cpe indices y n =
-    let S = world g pinned inks cpp in
+    let S = sharedOf g pinned inks cpp in
     (y₀ ≤ y) × (y ≤ end) × Walked S (tab .w) ((y - y₀) * maxSide) cpe₀ indices₀ n₀ cpe indices n (done S (tab .w) q y₀ y (state cpe₀ indices₀ n₀))
 
 abbrev μ-loop : tie.MeasureT-loop
@@ -40,7 +34,10 @@ abbrev start : tie.In-loop Inv-loop μ-loop → tie.Start Inv-loop μ-loop
 start c = entry (c .before .before)
 
 abbrev turn : tie.After-slice-known4 Inv-loop μ-loop → tie.In-loop Inv-loop μ-loop
-turn c = c .before .before .before .before .before .before .before
+turn c =
+    let earlier-2 = c .before .before .before .before .before in
+    let earlier = earlier-2 .before .before in
+    earlier
 
 loop-holds : tie.Need-loop-holds Inv-loop μ-loop
 loop-holds c =
@@ -69,7 +66,7 @@ loop-again c =
     let l = at .before .loop in
     let s = start at in
     let a = s .args in
-    let S : Shared = world (a .g) (a .pinned .now) (a .inks .now) (a .cpp .now) in
+    let S : Shared = sharedOf (a .g) (a .pinned .now) (a .inks .now) (a .cpp .now) in
     let h = l .inv .0 in
     let k : (l .y + 1 - a .q .y0) * maxSide ≡ (l .y - a .q .y0) * maxSide + maxSide = omega (arith, h) in
     let now : State = state (l .cpe) (l .indices) (l .n) in (

@@ -2,14 +2,17 @@
 use mathlib.Core.Path.{sym, _∙_}
 use mathlib.Core.List.{[]}
 use borrow.Author.Needs.{needs}
-use Rattle.search.specs.Shared.{shared}
+use Rattle.search.specs.Shared.{sharedOf}
 use Rattle.tile.specs.Tile.{visitOf}
 use Rattle.tile.proofs.Walked.{ready-mask, ready-writable, best-names, moved-shared, visited}
 use Rattle.tile.proofs.visit.Statement.{statement}
 use Rattle.tile.proofs.visit.Tie as tie
 
 abbrev entry : tie.After-t → tie.Start
-entry c = c .before .before .before .before .before .before
+entry c =
+    let earlier-2 = c .before .before .before .before .before in
+    let earlier = earlier-2 .before in
+    earlier
 
 abbrev pinned : tie.After-evaluate → tie.After-is-pinned
 pinned c = c .before .before .before .before
@@ -44,7 +47,7 @@ apply-move-requires c κs =
       (
         ready-writable (s .pre .0),
         rw (e .evaluate .ensures)
-            (best-names (shared (a .g .tiling) (a .g .inks) (a .pinned .now) (a .inks .now) (a .cpp .now)) (a .tab .w) (a .cpe .now) (a .indices .now) (a .x) (a .y) (s .pre .0 .inks-room)),
+            (best-names (sharedOf (a .g) (a .pinned .now) (a .inks .now) (a .cpp .now)) (a .tab .w) (a .cpe .now) (a .indices .now) (a .x) (a .y) (s .pre .0 .inks-room)),
       ),
     )
 
@@ -64,7 +67,7 @@ returns-2 c =
     let a = start e .args in
     let free = sym (pinned e .is-pinned .ensures) ∙ e .before .before .before .if1 .left in
     let same = moved-shared (a .g .tiling) 0 (a .g .inks) [] (a .pinned .now) (a .inks .now) (a .cpp .now) (a .tab .w) (a .x) (a .y) (e .evaluate .result .mv) (a .indices .now) (a .cpe .now) in
-    visited (shared (a .g .tiling) (a .g .inks) (a .pinned .now) (a .inks .now) (a .cpp .now)) (a .tab .w) (a .x) (a .y) (a .cpe .now) (a .indices .now) (a .p) (e .evaluate .result)
+    visited (sharedOf (a .g) (a .pinned .now) (a .inks .now) (a .cpp .now)) (a .tab .w) (a .x) (a .y) (a .cpe .now) (a .indices .now) (a .p) (e .evaluate .result)
     free (e .evaluate .ensures) (m .apply-move .ensures .0 ∙ same) (m .apply-move .ensures .1) (c .count-move .ensures)
 
 pub visit-spec : {M : Type 1} → statement M
