@@ -12,10 +12,17 @@ use Rattle.block.proofs.add_row.Tie as tie
 
 -- where the function starts, before the row's errors and after them, and after the row was spread
 abbrev start : tie.After-channel-errors-arg → tie.Start
-start c = c .before .before .before .before .before .before .before .before .before
+start c =
+    let earlier-2 = c .before .before .before .before .before in
+    let earlier = earlier-2 .before .before .before .before in
+    earlier
 
 abbrev errors : tie.After-saturating-sub3 → tie.After-channel-errors
-errors c = c .before .before .before .before .before .before .before .before .before .before .before
+errors c =
+    let earlier-2 = c .before .before .before .before .before in
+    let earlier-3 = earlier-2 .before .before .before .before .before in
+    let earlier = earlier-3 .before in
+    earlier
 
 abbrev called : tie.After-slice-known4 → tie.After-saturating-sub3
 called c = c .before .before .before
@@ -51,19 +58,37 @@ add-size-2 : tie.Need-add-size-2
 add-size-2 c = search needs
 
 add-top : tie.Need-add-top
-add-top c = omega (arith, c .before .before .before .before .before .before .before .before .before .before .before .before .before .before .pre .1 .1 .in-image, c .before .before .before .before .before .before .before .before .before .before .before .before .before .before .pre .1 .0 .scene .height-limit, c .before .before .before .before .before .before .before .before .before .before .before .before .before .before .pre .1 .0 .reach)
+add-top c =
+    let earlier = c .before .before .before .before .before in
+    let earlier-2 = earlier .before .before .before .before .before in
+    let start = earlier-2 .before .before .before .before in
+    omega (arith, start .pre .1 .1 .in-image, start .pre .1 .0 .scene .height-limit, start .pre .1 .0 .reach)
 
 sub-top : tie.Need-sub-top
-sub-top c = omega (arith, c .before .before .before .before .before .before .before .before .before .before .before .before .before .before .before .pre .1 .1 .low)
+sub-top c =
+    let earlier = c .before .before .before .before .before in
+    let earlier-2 = earlier .before .before .before .before .before in
+    let start = earlier-2 .before .before .before .before .before in
+    omega (arith, start .pre .1 .1 .low)
 
 add-saturating-sub : tie.Need-add-saturating-sub
-add-saturating-sub c = omega (arith, c .before .before .before .before .before .before .before .before .before .before .before .before .before .before .before .before .before .pre .1 .1 .in-image, c .before .before .before .before .before .before .before .before .before .before .before .before .before .before .before .before .before .pre .1 .0 .scene .height-limit, c .before .before .before .before .before .before .before .before .before .before .before .before .before .before .before .before .before .pre .1 .0 .reach)
+add-saturating-sub c =
+    let earlier = c .before .before .before .before .before in
+    let earlier-2 = earlier .before .before .before .before .before in
+    let earlier-3 = earlier-2 .before .before .before .before .before in
+    let start = earlier-3 .before .before in
+    omega (arith, start .pre .1 .1 .in-image, start .pre .1 .0 .scene .height-limit, start .pre .1 .0 .reach)
 
 saturating-sub-requires-2 : tie.Need-saturating-sub-requires-2
 saturating-sub-requires-2 c κs = search needs
 
 add-smaller : tie.Need-add-smaller
-add-smaller c = omega (arith, c .before .before .before .before .before .before .before .before .before .before .before .before .before .before .before .before .before .before .pre .1 .1 .in-image, c .before .before .before .before .before .before .before .before .before .before .before .before .before .before .before .before .before .before .pre .1 .0 .scene .height-limit, c .before .before .before .before .before .before .before .before .before .before .before .before .before .before .before .before .before .before .pre .1 .0 .reach)
+add-smaller c =
+    let earlier = c .before .before .before .before .before in
+    let earlier-2 = earlier .before .before .before .before .before in
+    let earlier-3 = earlier-2 .before .before .before .before .before in
+    let start = earlier-3 .before .before .before in
+    omega (arith, start .pre .1 .1 .in-image, start .pre .1 .0 .scene .height-limit, start .pre .1 .0 .reach)
 
 smaller-requires : tie.Need-smaller-requires
 smaller-requires c κs = search needs

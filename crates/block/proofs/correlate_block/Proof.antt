@@ -21,10 +21,17 @@ abbrev μ-loop : tie.MeasureT-loop
 
 -- where the function starts, and its loop, after it and in a turn
 abbrev start : tie.After-saturating-sub Inv-loop μ-loop → tie.Start Inv-loop μ-loop
-start c = c .before .before .before .before .before .before .before .before .before .before .before
+start c =
+    let earlier-2 = c .before .before .before .before .before in
+    let earlier-3 = earlier-2 .before .before .before .before .before in
+    let earlier = earlier-3 .before in
+    earlier
 
 abbrev turn : tie.After-slice-known4 Inv-loop μ-loop → tie.In-loop Inv-loop μ-loop
-turn c = c .before .before .before .before .before .before .before
+turn c =
+    let earlier-2 = c .before .before .before .before .before in
+    let earlier = earlier-2 .before .before in
+    earlier
 
 abbrev image : tie.Start Inv-loop μ-loop → Scene
 image s = scene (s .args .pixels .now) (s .args .indices .now) (s .args .pinned .now) (s .args .inks .now)

@@ -24,7 +24,8 @@ chroma-kernel-requires c κs = search needs
 
 sweep-both-requires-2 : tie.Need-sweep-both-requires-2
 sweep-both-requires-2 c κs =
-    let s = c .before .before .before .before .before .before .before .before .before in
+    let earlier = c .before .before .before .before .before in
+    let s = earlier .before .before .before .before in
     rw (c .chroma-kernel .ensures) (s .pre .1 .0, (c .before .before .before .before .sweep-both .kept .0 ∙ s .pre .1 .1 .0, s .pre .1 .1 .1))
 
 same-length : tie.Need-same-length
@@ -33,11 +34,14 @@ same-length c = search needs
 returns : tie.Need-returns
 unfolding addKernels
 returns c =
-    let s = c .before .before .before .before .before .before .before .before .before .before .before .before in
+    let earlier = c .before .before .before .before .before in
+    let at-sweep-both = earlier .before .before in
+    let at-lum-kernel = at-sweep-both .before in
+    let s = at-lum-kernel .before .before .before .before in
     let a = s .args in
     let m = a .m in
     let n = a .n in
-    rw (c .before .before .sweep-both2 .ensures, c .before .before .before .before .before .before .before .sweep-both .ensures, c .before .before .before .chroma-kernel .ensures, c .before .before .before .before .before .before .before .before .lum-kernel .ensures)
+    rw (c .before .before .sweep-both2 .ensures, at-sweep-both .sweep-both .ensures, c .before .before .before .chroma-kernel .ensures, at-lum-kernel .lum-kernel .ensures)
     (ap (λ (g : List Float). sweepOf Chrominance (n .a) (a .cpp .now) (chromaKernel (a .t)) (a .w) (n .x) (n .y) g)
     (sym (either-first (a .cpp .now) (lumKernel (a .t)) (chromaKernel (a .t)) (a .w) m n _ (sized-sweep Luminance (m .a) (a .cpp .now) (lumKernel (a .t)) (a .w) (m .x) (m .y) (a .cpe .now) (s .pre .1 .1 .0)))))
 

@@ -48,7 +48,10 @@ shared-slice-read-add-two-2 : tie.Need-shared-slice-read-add-two-2 Inv-loop μ-l
 shared-slice-read-add-two-2 c = search needs
 
 add-two-requires : tie.Need-add-two-requires Inv-loop μ-loop
-add-two-requires c κs = omega (arith, c .before .before .before .loop-test .taken, c .before .before .before .before .loop .inv .1, c .before .before .before .before .before .before .before .before .pre)
+add-two-requires c κs =
+    let earlier = c .before .before .before .before .before in
+    let start = earlier .before .before .before in
+    omega (arith, c .before .before .before .loop-test .taken, c .before .before .before .before .loop .inv .1, start .pre)
 
 add-i : tie.Need-add-i Inv-loop μ-loop
 add-i c = search needs
@@ -57,7 +60,10 @@ loop-less : tie.Need-loop-less Inv-loop μ-loop
 loop-less c = search needs
 
 loop-again : tie.Need-loop-again Inv-loop μ-loop
-loop-again c = (search needs, search needs, rw (more, ← c .before .before .before .before .before .before .before .loop .inv .2) (c .before .before .add-two .ensures))
+loop-again c =
+    let earlier = c .before .before .before .before .before in
+    let turn = earlier .before .before in
+    (search needs, search needs, rw (more, ← turn .loop .inv .2) (c .before .before .add-two .ensures))
 
 same-length : tie.Need-same-length Inv-loop μ-loop
 same-length c = search needs

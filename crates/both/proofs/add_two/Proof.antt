@@ -14,7 +14,10 @@ same-length : tie.Need-same-length
 same-length c = search needs
 
 returns : tie.Need-returns
-returns c = rw (← c .before .before .before .before .before .before .add-at .ensures) (c .before .before .add-at2 .ensures)
+returns c =
+    let earlier = c .before .before .before .before .before in
+    let at-add-at = earlier .before in
+    rw (← at-add-at .add-at .ensures) (c .before .before .add-at2 .ensures)
 
 pub add-two-spec : {M : Type 1} → statement M
 add-two-spec =

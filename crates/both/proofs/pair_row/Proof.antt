@@ -60,17 +60,19 @@ part-add-pairs-start-3 c = search needs
 
 part-add-pairs-end-3 : tie.Need-part-add-pairs-end-3
 part-add-pairs-end-3 c =
-    let s = c .before .before .before .before .before .before in
+    let earlier = c .before .before .before .before .before in
+    let s = earlier .before in
+    let start = s .before .before .before in
     let o = c .before .before .before .before .before in
-    let start = c .before .before .before .before .before .before .before .before .before in
     let e = s .part-at .ensures .pixels-are ∙ sym (o .part-at2 .ensures .pixels-are) in
     omega (arith, e, o .part-at2 .ensures .cpp-end, start .pre .0 .room)
 
 add-pairs-requires : tie.Need-add-pairs-requires
 add-pairs-requires c κs =
-    let s = c .before .before .before .before .before .before .before in
-    let o = c .before .before .before .before .before .before in
-    let start = c .before .before .before .before .before .before .before .before .before .before in
+    let earlier = c .before .before .before .before .before in
+    let o = earlier .before in
+    let s = o .before in
+    let start = s .before .before .before in
     let a = start .args in
     let r = s .part-at .ensures in
     let e = r .pixels-are ∙ sym (o .part-at2 .ensures .pixels-are) in
@@ -84,10 +86,11 @@ same-length c = search needs
 
 returns : tie.Need-returns
 returns c =
-    let start = c .before .before .before .before .before .before .before .before .before .before .before .before .before in
+    let earlier = c .before .before .before .before .before in
+    let o = earlier .before .before .before .before in
+    let s = o .before in
+    let start = s .before .before .before in
     let a = start .args in
-    let s = c .before .before .before .before .before .before .before .before .before .before in
-    let o = c .before .before .before .before .before .before .before .before .before in
     pair-row-is (a .channels) (a .cpp .now) (a .k) (a .w) (a .m) (a .n) (a .c) (a .y) (start .pre .1 .1 .0) (start .pre .1 .1 .1 .0)
     (s .part-at .result) (o .part-at2 .result) (s .part-at .ensures) (o .part-at2 .ensures) (a .cpe .now) (start .pre .1 .0) (start .pre .0 .room) (c .before .before .add-pairs .last .0) (c .before .before .add-pairs .ensures)
 

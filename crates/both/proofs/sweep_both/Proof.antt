@@ -25,7 +25,10 @@ alone-requires-2 c κs = search needs
 
 -- where the parts are known
 abbrev S : tie.After-alone2 → tie.Start
-S c = c .before .before .before .before .before .before .before
+S c =
+    let earlier-2 = c .before .before .before .before .before in
+    let earlier = earlier-2 .before .before in
+    earlier
 
 abbrev F : tie.After-alone2 → Rect
 F c = let a = S c .args in footprintOf (a .k) (a .w) (a .m .x) (a .m .y)
@@ -63,17 +66,19 @@ share-rows-requires c κs =
 
 sweep-rows-requires : tie.Need-sweep-rows-requires
 sweep-rows-requires c κs =
-    let p = c .before .before .before .before .before .before .before in
+    let earlier = c .before .before .before .before .before in
+    let p = earlier .before .before in
     let s = S p in
     let a = s .args in
     rw (one-is p) (s .pre .0, (c .before .before .before .share-rows .kept .0 ∙ s .pre .1 .0, one-rows (a .k) (a .w) (a .m) (a .n) (s .pre .1 .1)))
 
 sweep-rows-requires-2 : tie.Need-sweep-rows-requires-2
 sweep-rows-requires-2 c κs =
-    let p = c .before .before .before .before .before .before .before .before .before .before .before in
+    let earlier = c .before .before .before .before .before in
+    let shared = earlier .before .before in
+    let p = shared .before .before .before .before in
     let s = S p in
     let a = s .args in
-    let shared = c .before .before .before .before .before .before .before in
     rw (two-is p) (s .pre .0, (c .before .before .before .sweep-rows .kept .0 ∙ shared .share-rows .kept .0 ∙ s .pre .1 .0, two-rows (a .k) (a .w) (a .m) (a .n) (s .pre .1 .1)))
 
 same-length : tie.Need-same-length
@@ -81,11 +86,12 @@ same-length c = search needs
 
 returns : tie.Need-returns
 returns c =
-    let p = c .before .before .before .before .before .before .before .before .before .before .before .before .before .before in
+    let earlier = c .before .before .before .before .before in
+    let one = earlier .before in
+    let shared = one .before .before .before .before in
+    let p = shared .before .before .before .before in
     let s = S p in
     let a = s .args in
-    let one = c .before .before .before .before .before .before in
-    let shared = c .before .before .before .before .before .before .before .before .before .before in
     rw (c .before .before .sweep-rows2 .ensures, one .sweep-rows .ensures, shared .share-rows .ensures)
     (parts-are (a .channels) (a .cpp .now) (a .k) (a .w) (a .m) (a .n) (s .pre .1 .1) _ _ _ (common-is p) (one-is p) (two-is p) (a .cpe .now) (s .pre .1 .0))
 

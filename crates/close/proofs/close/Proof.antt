@@ -28,22 +28,42 @@ same-length-2 c = search needs
 
 returns : tie.Need-returns
 returns c =
-    let a = c .before .before .before .before .before .before .before .before .args in
+    let earlier = c .before .before .before .before .before in
+    let start = earlier .before .before .before in
+    let a = start .args in
     close-answers (a .r) (a .accepted-per-pass .now) (a .tile-states .now) (a .deltas .now) .kept _ (c .before .before .check-close .ensures) (c .if1 .taken)
 
 add-deltas-requires : tie.Need-add-deltas-requires
-add-deltas-requires c κs = limits-of (c .before .before .before .before .before .before .before .before .before .args .r) (valid (c .before .before .before .before .before .before .before .before .before) (c .before .before .before .check-close .ensures) (c .before .if1 .left) .valid)
+add-deltas-requires c κs =
+    let earlier = c .before .before .before .before .before in
+    let start = earlier .before .before .before .before in
+    limits-of (start .args .r) (valid (start) (c .before .before .before .check-close .ensures) (c .before .if1 .left) .valid)
 
 release-requires : tie.Need-release-requires
-release-requires c κs = let v = valid (c .before .before .before .before .before .before .before .before .before .before .before) (c .before .before .before .before .before .check-close .ensures) (c .before .before .before .if1 .left) in (limits-of (c .before .before .before .before .before .before .before .before .before .before .before .args .r) (v .valid), v .states-length)
+release-requires c κs =
+    let earlier = c .before .before .before .before .before in
+    let earlier-2 = earlier .before .before .before .before .before in
+    let start = earlier-2 .before in
+    let v = valid (start) (c .before .before .before .before .before .check-close .ensures) (c .before .before .before .if1 .left) in (limits-of (start .args .r) (v .valid), v .states-length)
 
 store-count-requires : tie.Need-store-count-requires
 store-count-requires c κs =
-    let v = valid (c .before .before .before .before .before .before .before .before .before .before .before .before .before .before .before) (c .before .before .before .before .before .before .before .before .before .check-close .ensures) (c .before .before .before .before .before .before .before .if1 .left) in
-    (omega (arith, v .valid .left (v .unfinished), v .counts-length), omega (arith, v .valid .accepted-most, few-pixels (c .before .before .before .before .before .before .before .before .before .before .before .before .before .before .before .args .r) (v .valid)))
+    let earlier = c .before .before .before .before .before in
+    let at-if1 = earlier .before .before in
+    let at-check-close = at-if1 .before .before in
+    let earlier-2 = at-check-close .before .before .before .before .before in
+    let start = earlier-2 .before in
+    let v = valid (start) (at-check-close .check-close .ensures) (at-if1 .if1 .left) in
+    (omega (arith, v .valid .left (v .unfinished), v .counts-length), omega (arith, v .valid .accepted-most, few-pixels (start .args .r) (v .valid)))
 
 next-record-requires : tie.Need-next-record-requires
-next-record-requires c κs = let v = valid (c .before .before .before .before .before .before .before .before .before .before .before .before .before .before .before .before .before .before) (c .before .before .before .before .before .before .before .before .before .before .before .before .check-close .ensures) (c .before .before .before .before .before .before .before .before .before .before .if1 .left) in (v .valid .phase-most, omega (arith, v .valid .done-most, v .valid .allowed-most))
+next-record-requires c κs =
+    let earlier-2 = c .before .before .before .before .before in
+    let at-if1 = earlier-2 .before .before .before .before .before in
+    let at-check-close = at-if1 .before .before in
+    let earlier-3 = at-check-close .before .before .before .before .before in
+    let earlier = earlier-3 .before in
+    let v = valid (earlier) (at-check-close .check-close .ensures) (at-if1 .if1 .left) in (v .valid .phase-most, omega (arith, v .valid .done-most, v .valid .allowed-most))
 
 same-length-3 : tie.Need-same-length-3
 same-length-3 c = search needs
@@ -54,13 +74,20 @@ same-length-4 c = search needs
 returns-2 : tie.Need-returns-2
 unfolding nextRecord
 returns-2 c =
-    let a = c .before .before .before .before .before .before .before .before .before .before .before .before .before .before .before .before .before .before .before .args in
+    let earlier = c .before .before .before .before .before in
+    let at-release = earlier .before .before in
+    let at-add-deltas = at-release .before .before in
+    let at-if1 = at-add-deltas .before .before in
+    let at-check-close = at-if1 .before .before in
+    let earlier-2 = at-check-close .before .before .before .before .before in
+    let start = earlier-2 .before in
+    let a = start .args in
     let r = a .r in
-    let v = valid (c .before .before .before .before .before .before .before .before .before .before .before .before .before .before .before .before .before .before .before) (c .before .before .before .before .before .before .before .before .before .before .before .before .before .check-close .ensures) (c .before .before .before .before .before .before .before .before .before .before .before .if1 .left) in
-    let error = c .before .before .before .before .before .before .before .before .before .add-deltas .ensures ∙ ap (λ n. withDeltas (r .plan .tiling) (r .phase) (a .deltas .now) n (r .error)) (v .deltas-length) in
-    ap (λ q. closed (c .before .before .before .before .before .before .before .before .before .before .before .before .before .check-close .result) q (c .before .before .before .store-count .last .1 .0) (c .before .before .before .before .before .before .before .release .last .1 .1 .0)) (c .next-record .ensures ∙ ap (nextWith r) error)
-    ∙ ap₂ (closed (c .before .before .before .before .before .before .before .before .before .before .before .before .before .check-close .result) (nextRecord r (a .deltas .now))) (c .before .before .before .store-count .ensures) (c .before .before .before .before .before .before .before .release .ensures)
-    ∙ close-answers r (a .accepted-per-pass .now) (a .tile-states .now) (a .deltas .now) .made _ (c .before .before .before .before .before .before .before .before .before .before .before .before .before .check-close .ensures) (c .before .before .before .before .before .before .before .before .before .before .before .if1 .left)
+    let v = valid (start) (at-check-close .check-close .ensures) (at-if1 .if1 .left) in
+    let error = at-add-deltas .add-deltas .ensures ∙ ap (λ n. withDeltas (r .plan .tiling) (r .phase) (a .deltas .now) n (r .error)) (v .deltas-length) in
+    ap (λ q. closed (at-check-close .check-close .result) q (c .before .before .before .store-count .last .1 .0) (at-release .release .last .1 .1 .0)) (c .next-record .ensures ∙ ap (nextWith r) error)
+    ∙ ap₂ (closed (at-check-close .check-close .result) (nextRecord r (a .deltas .now))) (c .before .before .before .store-count .ensures) (at-release .release .ensures)
+    ∙ close-answers r (a .accepted-per-pass .now) (a .tile-states .now) (a .deltas .now) .made _ (at-check-close .check-close .ensures) (at-if1 .if1 .left)
 
 pub close-spec : {M : Type 1} → statement M
 close-spec =

@@ -33,8 +33,10 @@ is-missing-requires c κs = search needs
 returns : tie.Need-returns Inv-loop μ-loop
 unfolding isMissing
 returns c =
+    let earlier = c .before .before .before .before .before in
+    let start = earlier .before .before .before in
     let h = c .before .before .before .before .loop .inv in
-    sym (first-is _ (tiles (c .before .before .before .before .before .before .before .before .args .r .plan .tiling)) (c .before .before .before .before .loop .i) (omega (arith, c .before .before .before .loop-test .taken, c .before .before .before .before .before .before .before .before .pre .1)) (sym (c .before .is-missing .ensures) ∙ c .if1 .taken) (h .1))
+    sym (first-is _ (tiles (start .args .r .plan .tiling)) (c .before .before .before .before .loop .i) (omega (arith, c .before .before .before .loop-test .taken, start .pre .1)) (sym (c .before .is-missing .ensures) ∙ c .if1 .taken) (h .1))
 
 add-i : tie.Need-add-i Inv-loop μ-loop
 add-i c = search needs

@@ -72,8 +72,10 @@ loop-less c = search needs
 loop-again : tie.Need-loop-again Inv-loop μ-loop
 unfolding channel
 loop-again c =
+    let earlier = c .before .before .before .before .before in
+    let start = earlier .before .before .before in
     let at = c .before .before .before .before .before .loop in
-    let here = value-here (c .before .before .before .before .before .before .before .before .args .palette .now) (at .i) (at .inv .1) (c .srgb-to-yycxcz .result) (c .srgb-to-yycxcz .ensures) in
+    let here = value-here (start .args .palette .now) (at .i) (at .inv .1) (c .srgb-to-yycxcz .result) (c .srgb-to-yycxcz .ensures) in
     (search needs, search needs, simp length-set (omega arith), fill-three f0 (at .i) _ _ _ _ _ _ (omega arith) (at .inv .3) (here 0 (lit< tt)) (here 1 (lit< tt)) (here 2 (lit< tt)))
 
 same-length : tie.Need-same-length Inv-loop μ-loop

@@ -73,9 +73,12 @@ loop-less c = search needs
 loop-again : tie.Need-loop-again Inv-loop μ-loop
 unfolding fourTaps
 loop-again c =
-    let h = c .before .before .before .before .before .before .loop .inv in
-    let room : c .before .before .before .before .before .before .loop .i < length (c .before .before .before .before .before .before .before .args .sums .now) = omega (arith, c .before .before .before .before .before .loop-test .taken, h .1) in
-    let old : at (c .before .before .before .before .before .before .loop .sums) (c .before .before .before .before .before .before .loop .i) ≡ at (c .before .before .before .before .before .before .before .args .sums .now) (c .before .before .before .before .before .before .loop .i) = ap (λ l. at l (c .before .before .before .before .before .before .loop .i)) (h .3) ∙ fill-rest nan (c .before .before .before .before .before .before .loop .i) _ _ in
+    let earlier = c .before .before .before .before .before in
+    let turn = earlier .before in
+    let start = turn .before in
+    let h = turn .loop .inv in
+    let room : turn .loop .i < length (start .args .sums .now) = omega (arith, c .before .before .before .before .before .loop-test .taken, h .1) in
+    let old : at (turn .loop .sums) (turn .loop .i) ≡ at (start .args .sums .now) (turn .loop .i) = ap (λ l. at l (turn .loop .i)) (h .3) ∙ fill-rest nan (turn .loop .i) _ _ in
     (omega (arith, room), refl, simp length-set (h .2), fill-turn nan _ _ _ _ _ room (h .3) (rw old))
 
 same-length : tie.Need-same-length Inv-loop μ-loop

@@ -100,12 +100,15 @@ shared-slice-read-add-four-taps-4 c = search needs
 
 add-four-taps-requires : tie.Need-add-four-taps-requires Inv-loop μ-loop
 add-four-taps-requires c κs =
-    let s = c .before .before .before .before .before .before .before .before .before .before .before in
-    let h = c .before .before .before .before .before .before .before .loop .inv .1 .long in
-    let room : s .args .b ≤ length (c .before .before .before .before .before .before .before .loop .sums) = omega (arith, s .pre .0 .1, h) in
-    let sums = mid-len (s .args .a) (s .args .b) (c .before .before .before .before .before .before .before .loop .sums) room in
-    let to = s .args .b + c .before .before .before .before .before .before .before .loop .d + 3 - s .args .lead in
-    let values = mid-len (s .args .a + c .before .before .before .before .before .before .before .loop .d - s .args .lead) to (s .args .values .now) (omega (arith, s .pre .1 .1 .1, c .before .before .before .before .before .before .loop-test .taken)) in
+    let earlier = c .before .before .before .before .before in
+    let at-loop-test = earlier .before in
+    let turn = at-loop-test .before in
+    let s = turn .before .before .before .before in
+    let h = turn .loop .inv .1 .long in
+    let room : s .args .b ≤ length (turn .loop .sums) = omega (arith, s .pre .0 .1, h) in
+    let sums = mid-len (s .args .a) (s .args .b) (turn .loop .sums) room in
+    let to = s .args .b + turn .loop .d + 3 - s .args .lead in
+    let values = mid-len (s .args .a + turn .loop .d - s .args .lead) to (s .args .values .now) (omega (arith, s .pre .1 .1 .1, at-loop-test .loop-test .taken)) in
     (omega (arith, values, sums, s .pre .0 .0, s .pre .1 .1 .0), omega (arith, sums, s .pre .1 .0 .sums, s .pre .0 .1))
 
 add-d : tie.Need-add-d Inv-loop μ-loop
@@ -116,10 +119,13 @@ loop-less c = search needs
 
 loop-again : tie.Need-loop-again Inv-loop μ-loop
 loop-again c =
-    let s = c .before .before .before .before .before .before .before .before .before .before .before .before .before .before in
-    let l = c .before .before .before .before .before .before .before .before .before .before .loop in
-    let fits : s .args .b + l .d + 3 ≤ s .args .lead + length (s .args .values .now) = omega (arith, s .pre .1 .1 .1, c .before .before .before .before .before .before .before .before .before .loop-test .taken) in (
-      omega (arith, c .before .before .before .before .before .before .before .before .before .loop-test .taken),
+    let earlier = c .before .before .before .before .before in
+    let at-loop-test = earlier .before .before .before .before in
+    let turn = at-loop-test .before in
+    let s = turn .before .before .before .before in
+    let l = turn .loop in
+    let fits : s .args .b + l .d + 3 ≤ s .args .lead + length (s .args .values .now) = omega (arith, s .pre .1 .1 .1, at-loop-test .loop-test .taken) in (
+      omega (arith, at-loop-test .loop-test .taken),
       changed-then _ _ _ _ _ _ _ _ (l .inv .1)
           (four-some (s .args .values .now) (s .args .taps .now) (s .args .lead) (s .args .a) (s .args .b) (l .d) (l .sums) (c .before .before .add-four-taps .last .0) (s .pre .0 .0) (omega (arith, s .pre .0 .1, l .inv .1 .long)) (s .pre .1 .1 .0) fits (c .before .before .add-four-taps .ensures))
           (λ i low high t. sym (tap-four (at (s .args .values .now)) (at (s .args .taps .now)) (length (s .args .values .now)) (s .args .lead) i 0 (l .d) t (omega arith) (omega (arith, low, s .pre .1 .1 .0)) (omega (arith, high, fits)))),

@@ -27,7 +27,8 @@ loop-holds c =
 
 one-tap-requires : tie.Need-one-tap-requires Inv-loop μ-loop
 one-tap-requires c κs =
-    let s = c .before .before .before .before .before .before .before in
+    let earlier = c .before .before .before .before .before in
+    let s = earlier .before .before in
     let h = c .before .before .loop .inv .2 .long in
     ((omega (arith, s .pre .0 .0, h), c .before .loop-test .taken), subst (λ n. RowFits n (length (s .args .values .now)) (s .args .lead) (length (s .args .taps .now))) (sym h) (s .pre .1))
 
@@ -39,7 +40,8 @@ loop-less c = search needs
 
 loop-again : tie.Need-loop-again Inv-loop μ-loop
 loop-again c =
-    let s = c .before .before .before .before .before .before .before .before .before .before in
+    let earlier = c .before .before .before .before .before in
+    let s = earlier .before .before .before .before .before in
     let l = c .before .before .before .before .before .loop in
     let turn = c .before .before .one-tap in (
       omega (arith, l .inv .0),
@@ -52,7 +54,8 @@ same-length c = c .before .loop .inv .2 .long
 
 returns-2 : tie.Need-returns-2 Inv-loop μ-loop
 returns-2 c =
-    let s = c .before .before .before .before .before .before in
+    let earlier = c .before .before .before .before .before in
+    let s = earlier .before in
     let l = c .before .loop in
     let e : l .d ≡ length (s .args .taps .now) = omega (arith, l .inv .1, c .loop-test .left) in
     subst (λ d. Changed (s .args .a) (s .args .b) (λ i. tapSum (at (s .args .values .now)) (at (s .args .taps .now)) (length (s .args .values .now)) (s .args .lead) i (s .args .first) d) (s .args .sums .now) (l .sums)) e (l .inv .2)

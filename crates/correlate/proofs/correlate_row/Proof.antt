@@ -47,7 +47,10 @@ same-length-2 c = search needs
 
 -- the places of the last return, from the end to the start: the left end and what lies between are done, their limits known
 abbrev fours : tie.After-slice-known6 → tie.After-by-fours
-fours c = c .before .before .before .before .before .before .before .before .before .before
+fours c =
+    let earlier-2 = c .before .before .before .before .before in
+    let earlier = earlier-2 .before .before .before .before .before in
+    earlier
 
 abbrev left : tie.After-by-fours → tie.After-by-ones2
 left c = c .before .before .before .before
@@ -57,12 +60,14 @@ start c = c .before .before .before .before
 
 returns-2 : tie.Need-returns-2
 returns-2 c =
+    let earlier = c .before .before .before .before .before in
+    let at-by-ones3 = earlier .before in
     let f = fours c in
     let e = left f in
     let hi = e .before .before .before .smaller2 in
     let lo = e .before .before .before .before .before in
     let s = start lo in
-    row-made (s .args .values .now) (s .args .taps .now) (s .args .lead) (lo .smaller .result) (hi .result) (length (s .args .sums .now)) (f .by-fours .result) _ _ _ _ _ (omega (arith, e .before .before .if1 .left)) (omega (arith, hi .ensures)) (f .by-fours .ensures .0) (e .by-ones2 .ensures) (f .by-fours .ensures .1) (c .before .before .before .before .before .before .by-ones3 .ensures) (c .before .before .by-ones4 .ensures)
+    row-made (s .args .values .now) (s .args .taps .now) (s .args .lead) (lo .smaller .result) (hi .result) (length (s .args .sums .now)) (f .by-fours .result) _ _ _ _ _ (omega (arith, e .before .before .if1 .left)) (omega (arith, hi .ensures)) (f .by-fours .ensures .0) (e .by-ones2 .ensures) (f .by-fours .ensures .1) (at-by-ones3 .by-ones3 .ensures) (c .before .before .by-ones4 .ensures)
 
 pub correlate-row-spec : {M : Type 1} → statement M
 correlate-row-spec =

@@ -12,8 +12,10 @@ use Rattle.correlate.proofs.one_tap.Tie as tie
 -- the sums that the tap reaches
 reached : (c : tie.Else1) → Reach (c .before .before .before .before .before .before .before .before .args .a) (c .before .before .before .before .before .before .before .before .args .b) (length (c .before .before .before .before .before .before .before .before .args .values .now)) (c .before .before .before .before .before .before .before .before .args .lead) (c .before .before .before .before .before .before .before .before .args .d) (c .before .before .before .larger .result) (c .before .smaller .result)
 reached c =
-    reach _ _ _ _ _ _ _ (c .before .before .before .larger .ensures ∙ ap (max (c .before .before .before .before .before .before .before .before .args .a)) (c .before .before .before .before .saturating-sub .ensures))
-    (c .before .smaller .ensures ∙ ap (min (c .before .before .before .before .before .before .before .before .args .b)) (c .before .before .saturating-sub2 .ensures)) (omega (arith, c .if1 .left))
+    let earlier = c .before .before .before .before .before in
+    let start = earlier .before .before .before in
+    reach _ _ _ _ _ _ _ (c .before .before .before .larger .ensures ∙ ap (max (start .args .a)) (c .before .before .before .before .saturating-sub .ensures))
+    (c .before .smaller .ensures ∙ ap (min (start .args .b)) (c .before .before .saturating-sub2 .ensures)) (omega (arith, c .if1 .left))
 
 saturating-sub-requires : tie.Need-saturating-sub-requires
 saturating-sub-requires c κs = search needs
@@ -32,8 +34,10 @@ smaller-requires c κs = search needs
 
 returns : tie.Need-returns
 returns c =
-    reach-none (c .before .before .before .before .before .before .before .before .args .values .now) (c .before .before .before .before .before .before .before .before .args .taps .now) (c .before .before .before .before .before .before .before .before .args .lead) (c .before .before .before .before .before .before .before .before .args .a) (c .before .before .before .before .before .before .before .before .args .b) (c .before .before .before .before .before .before .before .before .args .d) _ _ (c .before .before .before .before .before .before .before .before .args .sums .now)
-    (c .before .before .before .larger .ensures ∙ ap (max (c .before .before .before .before .before .before .before .before .args .a)) (c .before .before .before .before .saturating-sub .ensures)) (c .before .smaller .ensures ∙ ap (min (c .before .before .before .before .before .before .before .before .args .b)) (c .before .before .saturating-sub2 .ensures)) (omega (arith, c .if1 .taken))
+    let earlier = c .before .before .before .before .before in
+    let start = earlier .before .before .before in
+    reach-none (start .args .values .now) (start .args .taps .now) (start .args .lead) (start .args .a) (start .args .b) (start .args .d) _ _ (start .args .sums .now)
+    (c .before .before .before .larger .ensures ∙ ap (max (start .args .a)) (c .before .before .before .before .saturating-sub .ensures)) (c .before .smaller .ensures ∙ ap (min (start .args .b)) (c .before .before .saturating-sub2 .ensures)) (omega (arith, c .if1 .taken))
 
 add-from : tie.Need-add-from
 add-from c = search needs
@@ -79,12 +83,14 @@ shared-slice-read-add-tap c = search needs
 
 add-tap-requires : tie.Need-add-tap-requires
 add-tap-requires c κs =
+    let earlier = c .before .before .before .before .before in
+    let at-larger = earlier .before in
+    let s = at-larger .before .before .before .before .before in
     let r = reached (c .before .before .before) in
-    let s = c .before .before .before .before .before .before .before .before .before .before .before in
-    let from = c .before .before .before .before .before .before .larger .result + s .args .d - s .args .lead in
+    let from = at-larger .larger .result + s .args .d - s .args .lead in
     let to = c .before .before .before .before .smaller .result + s .args .d - s .args .lead in
     let values = mid-len from to (s .args .values .now) (omega (arith, r .last)) in
-    let sums = mid-len (c .before .before .before .before .before .before .larger .result) (c .before .before .before .before .smaller .result) (s .args .sums .now) (omega (arith, r .right, s .pre .0 .0)) in
+    let sums = mid-len (at-larger .larger .result) (c .before .before .before .before .smaller .result) (s .args .sums .now) (omega (arith, r .right, s .pre .0 .0)) in
     omega (arith, values, sums, r .first)
 
 same-length : tie.Need-same-length
@@ -92,8 +98,11 @@ same-length c = search needs
 
 returns-2 : tie.Need-returns-2
 returns-2 c =
-    let s = c .before .before .before .before .before .before .before .before .before .before .before .before .before .before in
-    reach-some (s .args .values .now) (s .args .taps .now) (s .args .lead) (s .args .a) (s .args .b) (s .args .d) _ _ (s .args .sums .now) (c .before .before .add-tap .last .0) (reached (c .before .before .before .before .before .before)) (omega (arith, c .before .before .before .before .before .before .if1 .left)) (s .pre .0 .0) (c .before .before .add-tap .ensures)
+    let earlier = c .before .before .before .before .before in
+    let at-if1 = earlier .before in
+    let earlier-2 = at-if1 .before .before .before .before .before in
+    let s = earlier-2 .before .before .before in
+    reach-some (s .args .values .now) (s .args .taps .now) (s .args .lead) (s .args .a) (s .args .b) (s .args .d) _ _ (s .args .sums .now) (c .before .before .add-tap .last .0) (reached (at-if1)) (omega (arith, at-if1 .if1 .left)) (s .pre .0 .0) (c .before .before .add-tap .ensures)
 
 pub one-tap-spec : {M : Type 1} → statement M
 one-tap-spec =

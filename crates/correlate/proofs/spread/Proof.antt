@@ -20,7 +20,8 @@ abbrev μ-loop : tie.MeasureT-loop
 line-room : (c : tie.After-line-start Inv-loop μ-loop) →
     (c .line-start .result + c .before .before .before .before .before .before .args .l .width ≤ length (c .before .before .loop .lines)) × (length (c .before .before .loop .lines) ≤ 67108864)
 line-room c =
-    let s = c .before .before .before .before .before .before in
+    let earlier = c .before .before .before .before .before in
+    let s = earlier .before in
     let l = c .before .before .loop in
     let room = s .pre .0 .room (l .y) (l .inv .1) (c .before .loop-test .taken) in
     (omega (arith, room, c .line-start .ensures, l .inv .3 .long), omega (arith, s .pre .0 .most, l .inv .3 .long))
@@ -30,7 +31,8 @@ taps-room : (c : tie.After-line-start Inv-loop μ-loop) →
     × ((c .before .before .before .before .before .before .args .top - c .before .before .loop .y) * c .before .before .before .before .before .before .args .size + c .before .before .before .before .before .before .args .size ≤ length (c .before .before .before .before .before .before .args .kernel .now))
     × (length (c .before .before .before .before .before .before .args .kernel .now) ≤ 65536)
 taps-room c =
-    let s = c .before .before .before .before .before .before in
+    let earlier = c .before .before .before .before .before in
+    let s = earlier .before in
     let l = c .before .before .loop in
     let t = s .pre .0 .taps (l .y) (l .inv .1) (c .before .loop-test .taken) in
     (t .0, omega (arith, t .1), s .pre .0 .few)
@@ -81,7 +83,8 @@ part-correlate-row-end-2 c = omega (arith, taps-room (c .before))
 
 correlate-row-requires : tie.Need-correlate-row-requires Inv-loop μ-loop
 correlate-row-requires c κs =
-    let s = c .before .before .before .before .before .before .before .before in
+    let earlier = c .before .before .before .before .before in
+    let s = earlier .before .before .before in
     let lines = mid-len (c .before .before .line-start .result) (c .before .before .line-start .result + s .args .l .width) (c .before .before .before .before .loop .lines) (line-room (c .before .before) .0) in
     let from = (s .args .top - c .before .before .before .before .loop .y) * s .args .size in
     let taps = mid-len from (from + s .args .size) (s .args .kernel .now) (taps-room (c .before .before) .1) in
@@ -96,11 +99,14 @@ loop-less c = search needs
 loop-again : tie.Need-loop-again Inv-loop μ-loop
 unfolding rowTaps
 loop-again c =
-    let s = c .before .before .before .before .before .before .before .before .before .before .before in
-    let l = c .before .before .before .before .before .before .before .loop in (
+    let earlier = c .before .before .before .before .before in
+    let at-loop-test = earlier .before in
+    let turn = at-loop-test .before in
+    let s = turn .before .before .before .before in
+    let l = turn .loop in (
       refl,
       omega (arith, l .inv .1),
-      omega (arith, c .before .before .before .before .before .before .loop-test .taken),
+      omega (arith, at-loop-test .loop-test .taken),
       spread-more (s .args .l) (s .args .a) (l .y) (rowTaps (s .args .values .now) (s .args .kernel .now) (s .args .size) (s .args .top) (s .args .lead)) _ (l .lines) _ (s .pre .0 .apart) (l .inv .1) (l .inv .3) (c .before .before .before .before .before .line-start .result) (c .before .before .before .before .before .line-start .ensures)
           (line-made (s .args .values .now) (s .args .kernel .now) (s .args .lead) (c .before .before .before .before .before .line-start .result) (s .args .l .width) ((s .args .top - l .y) * s .args .size) (s .args .size) (l .lines) (c .before .before .correlate-row .last .0) (line-room (c .before .before .before .before .before) .0) (taps-room (c .before .before .before .before .before) .1) (c .before .before .correlate-row .ensures)),
     )

@@ -5,7 +5,10 @@ use Rattle.error.proofs.add_products.Statement.{statement}
 use Rattle.error.proofs.add_products.Tie as tie
 
 returns : tie.Need-returns
-returns c = channelwise (λ s a b. s +f a *f b) (c .before .before .before .before .before .before .before .before .before .args .s) (c .before .before .before .before .before .before .before .before .before .args .a) (c .before .before .before .before .before .before .before .before .before .args .b)
+returns c =
+    let earlier = c .before .before .before .before .before in
+    let start = earlier .before .before .before .before in
+    channelwise (λ s a b. s +f a *f b) (start .args .s) (start .args .a) (start .args .b)
 
 pub add-products-spec : {M : Type 1} → statement M
 add-products-spec = tie.close (tie.spec returns)

@@ -20,7 +20,10 @@ abbrev μ-loop : tie.MeasureT-loop
 
 -- where the function starts
 abbrev start : tie.In-loop Inv-loop μ-loop → tie.Start Inv-loop μ-loop
-start c = c .before .before .before .before .before .before .before
+start c =
+    let earlier-2 = c .before .before .before .before .before in
+    let earlier = earlier-2 .before .before in
+    earlier
 
 loop-holds : tie.Need-loop-holds Inv-loop μ-loop
 loop-holds c = (omega arith, refl, refl, fill-none _ _)
@@ -64,8 +67,10 @@ same-length c = c .before .loop .inv .2
 
 returns : tie.Need-returns Inv-loop μ-loop
 returns c =
+    let earlier = c .before .before .before .before .before in
+    let start = earlier .before .before in
     let h = c .before .loop .inv in
-    fill-done (c .before .loop .i) (length (c .before .before .before .before .before .before .before .args .line .now)) _ _ _ (omega (arith, h .0, h .1)) (omega (arith, c .loop-test .left, h .1)) refl (h .3)
+    fill-done (c .before .loop .i) (length (start .args .line .now)) _ _ _ (omega (arith, h .0, h .1)) (omega (arith, c .loop-test .left, h .1)) refl (h .3)
 
 pub channel-errors-spec : {M : Type 1} → statement M
 channel-errors-spec =

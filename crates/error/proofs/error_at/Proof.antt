@@ -53,8 +53,10 @@ less-requires c κs = search needs
 returns : tie.Need-returns
 unfolding errorAt targetAt halftoneAt
 returns c =
+    let earlier = c .before .before .before .before .before in
+    let at-values-at = earlier .before .before in
     let flag = sym (c .before .before .is-pinned .ensures) ∙ c .before .if1 .taken in
-    rw (c .less .ensures, c .before .before .before .before .before .before .before .values-at .ensures, flag)
+    rw (c .less .ensures, at-values-at .values-at .ensures, flag)
 
 less-requires-2 : tie.Need-less-requires-2
 less-requires-2 c κs = search needs
@@ -62,8 +64,10 @@ less-requires-2 c κs = search needs
 returns-2 : tie.Need-returns-2
 unfolding errorAt targetAt halftoneAt colourAt
 returns-2 c =
+    let earlier = c .before .before .before .before .before in
+    let at-values-at = earlier .before .before in
     let flag = sym (c .before .before .is-pinned .ensures) ∙ c .before .if1 .left in
-    rw (c .less2 .ensures, c .before .before .before .before .before .before .before .values-at .ensures, c .before .before .before .srgb-to-yycxcz .ensures, flag)
+    rw (c .less2 .ensures, at-values-at .values-at .ensures, c .before .before .before .srgb-to-yycxcz .ensures, flag)
 
 pub error-at-spec : {M : Type 1} → statement M
 error-at-spec =

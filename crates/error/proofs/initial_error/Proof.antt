@@ -37,8 +37,10 @@ div-error-at c = search needs
 
 error-at-requires : tie.Need-error-at-requires Inv-loop μ-loop
 error-at-requires c κs =
-    let f = c .before .before .before .before .before .before .before .before .before .pre .1 .0 in
-    (c .before .before .before .before .before .before .before .before .before .pre .0, pixel-fits _ _ _ _ _ f (column-lt _ _ (f .wide)) (row-lt _ _ _ (f .wide) (c .loop-test .taken)))
+    let earlier = c .before .before .before .before .before in
+    let start = earlier .before .before .before .before in
+    let f = start .pre .1 .0 in
+    (start .pre .0, pixel-fits _ _ _ _ _ f (column-lt _ _ (f .wide)) (row-lt _ _ _ (f .wide) (c .loop-test .taken)))
 
 mul-values-at : tie.Need-mul-values-at Inv-loop μ-loop
 mul-values-at c = search needs
@@ -50,7 +52,11 @@ add-products-requires : tie.Need-add-products-requires Inv-loop μ-loop
 add-products-requires c κs = search needs
 
 add-i : tie.Need-add-i Inv-loop μ-loop
-add-i c = omega (arith, c .before .before .before .loop-test .taken, image-product _ _ (c .before .before .before .before .before .before .before .before .before .before .before .before .pre .1 .0 .height-limit) (c .before .before .before .before .before .before .before .before .before .before .before .before .pre .1 .0 .width-limit))
+add-i c =
+    let earlier = c .before .before .before .before .before in
+    let earlier-2 = earlier .before .before .before .before .before in
+    let start = earlier-2 .before .before in
+    omega (arith, c .before .before .before .loop-test .taken, image-product _ _ (start .pre .1 .0 .height-limit) (start .pre .1 .0 .width-limit))
 
 loop-less : tie.Need-loop-less Inv-loop μ-loop
 loop-less c = search needs
@@ -62,7 +68,10 @@ loop-again c = (omega (arith, c .before .before .before .loop-test .taken), λ c
 returns : tie.Need-returns Inv-loop μ-loop
 unfolding initialError channelError channel
 returns c =
-    let e : c .before .before .before .before .loop .i ≡ c .before .before .before .before .before .before .before .before .before .before .before .before .args .t .height * c .before .before .before .before .before .before .before .before .before .before .before .before .args .t .width = omega (arith, c .before .before .before .before .loop .inv .0, c .before .before .before .loop-test .left) in
+    let earlier = c .before .before .before .before .before in
+    let earlier-2 = earlier .before .before .before .before .before in
+    let start = earlier-2 .before .before in
+    let e : c .before .before .before .before .loop .i ≡ start .args .t .height * start .args .t .width = omega (arith, c .before .before .before .before .loop .inv .0, c .before .before .before .loop-test .left) in
     let yy = rw e at (c .before .before .before .before .loop .inv .1 0) in
     let cx = rw e at (c .before .before .before .before .loop .inv .1 1) in
     let cz = rw e at (c .before .before .before .before .loop .inv .1 2) in

@@ -51,7 +51,10 @@ mul-t11 c = search needs
 
 returns-2 : tie.Need-returns-2
 unfolding kernelRadius
-returns-2 c = rw (← c .before .before .before .before .before .before .check .ensures, sym (c .before .before .before .before .before .is-accepted .ensures) ∙ not-false _ (c .before .before .before .before .if1 .left), c .blur-radius2 .ensures .0, c .before .eye-sigma-px2 .ensures, c .before .before .blur-radius .ensures .0, c .before .before .before .eye-sigma-px .ensures)
+returns-2 c =
+    let earlier = c .before .before .before .before .before in
+    let at-check = earlier .before in
+    rw (← at-check .check .ensures, sym (c .before .before .before .before .before .is-accepted .ensures) ∙ not-false _ (c .before .before .before .before .if1 .left), c .blur-radius2 .ensures .0, c .before .eye-sigma-px2 .ensures, c .before .before .blur-radius .ensures .0, c .before .before .before .eye-sigma-px .ensures)
 
 pub check-eye-spec : {M : Type 1} → statement M
 check-eye-spec =

@@ -18,11 +18,13 @@ returns c = search needs
 
 kernels-requires : tie.Need-kernels-requires
 kernels-requires c κs =
+    let earlier = c .before .before .before .before .before in
+    let start = earlier .before in
     let v = c .before .before .before .before .validate .ensures in
-    let ok = eye-accepted (c .before .before .before .before .before .before .args .params) (ap (λ (e : Eye). e .status .number) (sym v) ∙ c .before .if1 .left) in
-    let radii = sym (v ∙ eye-radii (c .before .before .before .before .before .before .args .params) ok) in
-    let fit = radii-fit (c .before .before .before .before .before .before .args .params) ok in
-    (ok, subst (λ (e : Eye). KernelRadius (e .«lum_radius»)) radii (fit .0), subst (λ (e : Eye). KernelRadius (e .«chroma_radius»)) radii (fit .1), c .before .before .before .before .before .before .pre)
+    let ok = eye-accepted (start .args .params) (ap (λ (e : Eye). e .status .number) (sym v) ∙ c .before .if1 .left) in
+    let radii = sym (v ∙ eye-radii (start .args .params) ok) in
+    let fit = radii-fit (start .args .params) ok in
+    (ok, subst (λ (e : Eye). KernelRadius (e .«lum_radius»)) radii (fit .0), subst (λ (e : Eye). KernelRadius (e .«chroma_radius»)) radii (fit .1), start .pre)
 
 two-requires-2 : tie.Need-two-requires-2
 two-requires-2 c κs = search needs

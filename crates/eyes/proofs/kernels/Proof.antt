@@ -40,7 +40,10 @@ slice-reshare-prefix-floats : tie.Need-slice-reshare-prefix-floats
 slice-reshare-prefix-floats c = omega (arith, fits (c .before .before .before .before .before), c .before .before .eye-kernels .kept, c .before .before .before .before .before .pre .3)
 
 slice-aggregate-floats : tie.Need-slice-aggregate-floats
-slice-aggregate-floats c = sym (length-take-le _ _ (omega (arith, fits (c .before .before .before .before .before .before), c .before .before .before .eye-kernels .kept, c .before .before .before .before .before .before .pre .3)))
+slice-aggregate-floats c =
+    let earlier = c .before .before .before .before .before in
+    let start = earlier .before in
+    sym (length-take-le _ _ (omega (arith, fits (start), c .before .before .before .eye-kernels .kept, start .pre .3)))
 
 floats-requires : tie.Need-floats-requires
 floats-requires c κs = search needs
@@ -52,7 +55,10 @@ part-floats-start : tie.Need-part-floats-start
 part-floats-start c = search needs
 
 part-floats-end : tie.Need-part-floats-end
-part-floats-end c = omega (arith, fits (c .before .before .before .before .before .before .before .before), c .before .before .before .before .before .eye-kernels .kept, c .before .before .before .before .before .before .before .before .pre .3)
+part-floats-end c =
+    let earlier = c .before .before .before .before .before in
+    let start = earlier .before .before .before in
+    omega (arith, fits (start), c .before .before .before .before .before .eye-kernels .kept, start .pre .3)
 
 floats-requires-2 : tie.Need-floats-requires-2
 floats-requires-2 c κs = search needs

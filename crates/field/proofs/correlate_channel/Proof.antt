@@ -14,10 +14,16 @@ use Rattle.field.proofs.correlate_channel.Tie as tie
 
 -- where the function starts, and where the block is lent
 abbrev start : tie.After-channel-kernel → tie.Start
-start c = c .before .before .before .before .before .before .before .before
+start c =
+    let earlier-2 = c .before .before .before .before .before in
+    let earlier = earlier-2 .before .before .before in
+    earlier
 
 abbrev lent : tie.After-slice-known4 → tie.After-channel-block
-lent c = c .before .before .before .before .before .before .before .before
+lent c =
+    let earlier-2 = c .before .before .before .before .before in
+    let earlier = earlier-2 .before .before .before in
+    earlier
 
 abbrev image : tie.Start → Scene
 image s = scene (s .args .pixels .now) (s .args .indices .now) (s .args .pinned .now) (s .args .inks .now)

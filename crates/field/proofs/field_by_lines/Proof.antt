@@ -11,10 +11,17 @@ use Rattle.field.proofs.field_by_lines.Tie as tie
 
 -- where the function starts, and where the lines are made and woven
 abbrev start : tie.After-correlate-channels → tie.Start
-start c = c .before .before .before .before .before .before .before .before .before .before .before
+start c =
+    let earlier-2 = c .before .before .before .before .before in
+    let earlier-3 = earlier-2 .before .before .before .before .before in
+    let earlier = earlier-3 .before in
+    earlier
 
 abbrev made : tie.After-weave-rows → tie.After-correlate-channels
-made c = c .before .before .before .before .before .before .before
+made c =
+    let earlier-2 = c .before .before .before .before .before in
+    let earlier = earlier-2 .before .before in
+    earlier
 
 correlate-channels-requires : tie.Need-correlate-channels-requires
 correlate-channels-requires c κs = search needs

@@ -14,17 +14,24 @@ array-borrow-prefix-line : tie.Need-array-borrow-prefix-line
 array-borrow-prefix-line c = search needs
 
 slice-aggregate-field-by-lines : tie.Need-slice-aggregate-field-by-lines
-slice-aggregate-field-by-lines c = sym (length-take-le _ _ (omega (arith, c .before .before .before .before .before .before .before .pre .1 .0 .limits .width-limit)))
+slice-aggregate-field-by-lines c =
+    let earlier = c .before .before .before .before .before in
+    let start = earlier .before .before in
+    sym (length-take-le _ _ (omega (arith, start .pre .1 .0 .limits .width-limit)))
 
 array-borrow-prefix-lines : tie.Need-array-borrow-prefix-lines
 array-borrow-prefix-lines c = search needs
 
 slice-aggregate-field-by-lines-2 : tie.Need-slice-aggregate-field-by-lines-2
-slice-aggregate-field-by-lines-2 c = sym (length-take-le _ _ (omega (arith, c .before .before .before .before .before .before .before .before .pre .1 .0 .limits .width-limit)))
+slice-aggregate-field-by-lines-2 c =
+    let earlier = c .before .before .before .before .before in
+    let start = earlier .before .before .before in
+    sym (length-take-le _ _ (omega (arith, start .pre .1 .0 .limits .width-limit)))
 
 field-by-lines-requires : tie.Need-field-by-lines-requires
 field-by-lines-requires c κs =
-    let s = c .before .before .before .before .before .before .before .before .before in
+    let earlier = c .before .before .before .before .before in
+    let s = earlier .before .before .before .before in
     let w = s .pre .1 .0 .limits .width-limit in
     (s .pre .0, (s .pre .1 .0, (length-take-le _ _ (omega (arith, w)), length-take-le _ _ (omega (arith, w)), s .pre .1 .1)))
 

@@ -53,34 +53,53 @@ part-copy-values-end c = omega (arith, room (c .before))
 
 copy-values-requires : tie.Need-copy-values-requires Inv-loop μ-loop
 copy-values-requires c κs =
-    let s = c .before .before .before .before .before .before .before .before in
+    let earlier = c .before .before .before .before .before in
+    let s = earlier .before .before .before in
     let n = 3 * s .args .t .width in
     let at-row = c .before .before .before .before .before .loop .y * n in
     let part = mid-len at-row (at-row + n) (c .before .before .before .before .before .loop .cpe) (room (c .before .before .before) .0) in
     omega (arith, part, c .before .before .before .before .before .loop .inv .3, s .pre .1 .0)
 
 add-weave : tie.Need-add-weave Inv-loop μ-loop
-add-weave c = omega (arith, room (c .before .before .before .before .before .before))
+add-weave c =
+    let earlier-2 = c .before .before .before .before .before in
+    let earlier = earlier-2 .before in
+    omega (arith, room (earlier))
 
 mul-weave : tie.Need-mul-weave Inv-loop μ-loop
-mul-weave c = omega (arith, room (c .before .before .before .before .before .before))
+mul-weave c =
+    let earlier-2 = c .before .before .before .before .before in
+    let earlier = earlier-2 .before in
+    omega (arith, room (earlier))
 
 sub-weave : tie.Need-sub-weave Inv-loop μ-loop
-sub-weave c = omega (arith, room (c .before .before .before .before .before .before))
+sub-weave c =
+    let earlier-2 = c .before .before .before .before .before in
+    let earlier = earlier-2 .before in
+    omega (arith, room (earlier))
 
 part-weave-start : tie.Need-part-weave-start Inv-loop μ-loop
-part-weave-start c = omega (arith, room (c .before .before .before .before .before .before))
+part-weave-start c =
+    let earlier-2 = c .before .before .before .before .before in
+    let earlier = earlier-2 .before in
+    omega (arith, room (earlier))
 
 part-weave-end : tie.Need-part-weave-end Inv-loop μ-loop
-part-weave-end c = omega (arith, room (c .before .before .before .before .before .before))
+part-weave-end c =
+    let earlier-2 = c .before .before .before .before .before in
+    let earlier = earlier-2 .before in
+    omega (arith, room (earlier))
 
 weave-requires : tie.Need-weave-requires Inv-loop μ-loop
 weave-requires c κs =
-    let s = c .before .before .before .before .before .before .before .before .before .before .before .before .before in
+    let earlier-2 = c .before .before .before .before .before in
+    let earlier = earlier-2 .before .before .before in
+    let turn = earlier .before .before in
+    let s = turn .before .before .before in
     let n = 3 * s .args .t .width in
-    let at-row = c .before .before .before .before .before .before .before .before .before .before .loop .y * n in
-    let part = mid-len at-row (at-row + n) (c .before .before .before .before .before .before .before .before .before .before .loop .cpe) (room (c .before .before .before .before .before .before .before .before) .0) in
-    (omega (arith, part), omega (arith, c .before .before .before .before .copy-values .kept, c .before .before .before .before .before .before .before .before .before .before .loop .inv .3, s .pre .1 .0), s .pre .0 .1)
+    let at-row = turn .loop .y * n in
+    let part = mid-len at-row (at-row + n) (turn .loop .cpe) (room (earlier) .0) in
+    (omega (arith, part), omega (arith, c .before .before .before .before .copy-values .kept, turn .loop .inv .3, s .pre .1 .0), s .pre .0 .1)
 
 add-y : tie.Need-add-y Inv-loop μ-loop
 add-y c = search needs
@@ -90,13 +109,17 @@ loop-less c = search needs
 
 loop-again : tie.Need-loop-again Inv-loop μ-loop
 loop-again c =
-    let s = c .before .before .before .before .before .before .before .before .before .before .before .before .before .before .before .before in
-    let l = c .before .before .before .before .before .before .before .before .before .before .before .before .before .loop in (
-      omega (arith, c .before .before .before .before .before .before .before .before .before .before .before .if1 .taken),
+    let earlier = c .before .before .before .before .before in
+    let at-copy-values = earlier .before .before in
+    let at-if1 = at-copy-values .before .before .before .before in
+    let turn = at-if1 .before .before in
+    let s = turn .before .before .before in
+    let l = turn .loop in (
+      omega (arith, at-if1 .if1 .taken),
       refl,
       refl,
-      omega (arith, c .before .before .before .before .before .before .before .copy-values .kept, c .before .before .weave .kept, l .inv .3),
-      woven-more (s .args .t .width) (l .y) (l .y * (3 * s .args .t .width)) (s .args .cpe .now) (l .cpe) _ _ refl (room (c .before .before .before .before .before .before .before .before .before .before .before) .0) (l .inv .4) (c .before .before .before .before .before .before .before .copy-values .ensures) (c .before .before .weave .ensures),
+      omega (arith, at-copy-values .copy-values .kept, c .before .before .weave .kept, l .inv .3),
+      woven-more (s .args .t .width) (l .y) (l .y * (3 * s .args .t .width)) (s .args .cpe .now) (l .cpe) _ _ refl (room (at-if1) .0) (l .inv .4) (at-copy-values .copy-values .ensures) (c .before .before .weave .ensures),
     )
 
 same-length : tie.Need-same-length Inv-loop μ-loop

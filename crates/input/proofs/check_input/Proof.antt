@@ -20,7 +20,9 @@ check-eye-requires c κs = search needs
 returns : tie.Need-returns
 unfolding checkedOf
 returns c =
-    let a = c .before .before .before .before .before .before .before .before .args in
+    let earlier = c .before .before .before .before .before in
+    let start = earlier .before .before .before in
+    let a = start .args in
     rw (← input-steps (input (a .width) (a .height) (a .pixels .now) (a .palette .now) (a .indices .now) (a .pinned .now) (a .params)), ← c .before .before .before .ok .ensures, ← c .before .before .check-image .ensures, ← c .before .check-inks .ensures) (c .check-eye .ensures)
 
 pub check-input-spec : {M : Type 1} → statement M

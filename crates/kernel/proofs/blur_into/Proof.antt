@@ -12,8 +12,10 @@ gaussian-line-requires c κs = search needs
 
 blur-from-requires : tie.Need-blur-from-requires
 blur-from-requires c κs =
-    let e : length (c .before .before .before .before .gaussian-line .last .1 .1 .0) ≡ kernelSide (c .before .before .before .before .before .before .before .before .args .r) = c .before .before .before .before .gaussian-line .kept .1 .1 .0 ∙ c .before .before .before .before .before .before .before .before .pre .1 in
-    (omega (arith, e), omega (arith, e, c .before .before .before .before .before .before .before .before .pre .0), rw e (c .before .before .before .before .before .before .before .before .pre .2))
+    let earlier = c .before .before .before .before .before in
+    let start = earlier .before .before .before in
+    let e : length (c .before .before .before .before .gaussian-line .last .1 .1 .0) ≡ kernelSide (start .args .r) = c .before .before .before .before .gaussian-line .kept .1 .1 .0 ∙ start .pre .1 in
+    (omega (arith, e), omega (arith, e, start .pre .0), rw e (start .pre .2))
 
 same-length : tie.Need-same-length
 same-length c = search needs
@@ -22,7 +24,10 @@ same-length-2 : tie.Need-same-length-2
 same-length-2 c = search needs
 
 returns : tie.Need-returns
-returns c = c .before .before .blur-from .ensures ∙ ap blurOf (c .before .before .before .before .before .before .before .gaussian-line .ensures)
+returns c =
+    let earlier = c .before .before .before .before .before in
+    let at-gaussian-line = earlier .before .before in
+    c .before .before .blur-from .ensures ∙ ap blurOf (at-gaussian-line .gaussian-line .ensures)
 
 pub blur-into-spec : {M : Type 1} → statement M
 blur-into-spec = tie.close (tie.spec gaussian-line-requires blur-from-requires same-length same-length-2 returns)

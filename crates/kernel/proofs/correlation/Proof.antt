@@ -35,7 +35,10 @@ correlate-row-requires : tie.Need-correlate-row-requires Inv-loop μ-loop
 correlate-row-requires c κs = record { offset = c .before .before .before .before .before .pre; from = c .before .loop .inv .0; to = rw (← c .before .loop .inv .2) (c .loop-test .taken) }
 
 add-y : tie.Need-add-y Inv-loop μ-loop
-add-y c = omega (arith, c .before .before .loop .inv, c .before .loop-test .taken, c .before .before .before .before .before .before .pre .radius)
+add-y c =
+    let earlier = c .before .before .before .before .before in
+    let start = earlier .before in
+    omega (arith, c .before .before .loop .inv, c .before .loop-test .taken, start .pre .radius)
 
 loop-less : tie.Need-loop-less Inv-loop μ-loop
 loop-less c = falls (c .before .before .before .before .overlap-to .result) (c .before .before .loop .y) (c .before .loop-test .taken)

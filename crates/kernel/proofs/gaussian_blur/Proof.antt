@@ -31,7 +31,11 @@ same-length c = search needs
 
 returns : tie.Need-returns
 unfolding gaussianBlur
-returns c = c .before .before .before .blur-into .ensures ∙ ap (λ r. blurOf (gaussianLine (c .before .before .before .before .before .before .before .before .args .sigma) r)) (c .before .before .before .before .before .before .blur-radius .ensures .0)
+returns c =
+    let earlier = c .before .before .before .before .before in
+    let at-blur-radius = earlier .before in
+    let start = at-blur-radius .before .before in
+    c .before .before .before .blur-into .ensures ∙ ap (λ r. blurOf (gaussianLine (start .args .sigma) r)) (at-blur-radius .blur-radius .ensures .0)
 
 pub gaussian-blur-spec : {M : Type 1} → statement M
 gaussian-blur-spec =

@@ -19,7 +19,11 @@ same-length-2 c = search needs
 
 returns : tie.Need-returns
 unfolding kernelOf
-returns c = c .before .before .autocorrelate .ensures ∙ ap (λ p. autocorrelation p (c .before .before .before .before .before .before .before .before .before .before .before .args .r)) (c .before .before .before .before .before .before .before .gaussian-blur .ensures) ∙ ap (autocorrelation (gaussianBlur (c .before .before .before .before .before .before .before .before .before .before .before .args .sigma))) (c .before .before .before .before .before .before .before .before .before .before .before .pre .1)
+returns c =
+    let earlier = c .before .before .before .before .before in
+    let at-gaussian-blur = earlier .before .before in
+    let start = at-gaussian-blur .before .before .before .before in
+    c .before .before .autocorrelate .ensures ∙ ap (λ p. autocorrelation p (start .args .r)) (at-gaussian-blur .gaussian-blur .ensures) ∙ ap (autocorrelation (gaussianBlur (start .args .sigma))) (start .pre .1)
 
 pub kernel-into-spec : {M : Type 1} → statement M
 kernel-into-spec = tie.close (tie.spec gaussian-blur-requires autocorrelate-requires same-length same-length-2 returns)

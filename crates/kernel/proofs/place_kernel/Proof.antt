@@ -79,11 +79,14 @@ same-length-2 c = search needs
 
 returns : tie.Need-returns
 returns c =
-    let base = c .before .before .before .before .before .before .before .before .before .before .args .base in
-    let cpp = c .before .before .before .before .before .before .before .before .before .before .args .cpp .now in
-    let n = values (2 * c .before .before .before .before .before .before .before .blur-radius .result) in
-    let k = kernelOf (c .before .before .before .before .before .before .before .before .before .before .args .sigma) in
-    ap (λ l. putMid base (base + n - base) cpp l) (c .before .before .before .before .kernel-into .ensures) ∙ part-overwritten base n cpp k (length-kernel _ ∙ ap (λ r. values (2 * r)) (sym (c .before .before .before .before .before .before .before .blur-radius .ensures .0)))
+    let earlier = c .before .before .before .before .before in
+    let at-blur-radius = earlier .before .before in
+    let start = at-blur-radius .before .before .before in
+    let base = start .args .base in
+    let cpp = start .args .cpp .now in
+    let n = values (2 * at-blur-radius .blur-radius .result) in
+    let k = kernelOf (start .args .sigma) in
+    ap (λ l. putMid base (base + n - base) cpp l) (c .before .before .before .before .kernel-into .ensures) ∙ part-overwritten base n cpp k (length-kernel _ ∙ ap (λ r. values (2 * r)) (sym (at-blur-radius .blur-radius .ensures .0)))
 
 pub place-kernel-spec : {M : Type 1} → statement M
 place-kernel-spec =

@@ -28,19 +28,33 @@ abbrev μ-loop : tie.MeasureT-loop
 
 -- where the function starts, and a turn: where the band's rows are counted, squared and added
 abbrev start : tie.In-loop Inv-loop μ-loop → tie.Start Inv-loop μ-loop
-start c = c .before .before .before .before .before .before .before .before .before .before .before
+start c =
+    let earlier-2 = c .before .before .before .before .before in
+    let earlier-3 = earlier-2 .before .before .before .before .before in
+    let earlier = earlier-3 .before in
+    earlier
 
 abbrev counted : tie.After-square-band Inv-loop μ-loop → tie.After-smaller Inv-loop μ-loop
 counted c = c .before .before .before .before
 
 abbrev squared-before : tie.After-slice-known6 Inv-loop μ-loop → tie.After-square-band Inv-loop μ-loop
-squared-before c = c .before .before .before .before .before .before
+squared-before c =
+    let earlier-2 = c .before .before .before .before .before in
+    let earlier = earlier-2 .before in
+    earlier
 
 abbrev over : tie.After-loop Inv-loop μ-loop → tie.Start Inv-loop μ-loop
-over c = c .before .before .before .before .before .before .before .before .before .before .before
+over c =
+    let earlier-2 = c .before .before .before .before .before in
+    let earlier-3 = earlier-2 .before .before .before .before .before in
+    let earlier = earlier-3 .before in
+    earlier
 
 abbrev squared : tie.After-add-all Inv-loop μ-loop → tie.After-square-band Inv-loop μ-loop
-squared c = c .before .before .before .before .before .before .before .before
+squared c =
+    let earlier-2 = c .before .before .before .before .before in
+    let earlier = earlier-2 .before .before .before in
+    earlier
 
 abbrev image : tie.Start Inv-loop μ-loop → Scene
 image s = scene (s .args .pixels .now) (s .args .indices .now) [] (s .args .inks .now)

@@ -12,16 +12,28 @@ use Rattle.measure.proofs.mirrored_error.Tie as tie
 
 -- where the function starts, and where the blur is mirrored
 abbrev start : tie.After-mirror → tie.Start
-start c = c .before .before .before .before .before .before .before .before .before .before
+start c =
+    let earlier-2 = c .before .before .before .before .before in
+    let earlier = earlier-2 .before .before .before .before .before in
+    earlier
 
 abbrev lent : tie.After-blur-error-arg4 → tie.After-mirror
-lent c = c .before .before .before .before .before .before
+lent c =
+    let earlier-2 = c .before .before .before .before .before in
+    let earlier = earlier-2 .before in
+    earlier
 
 abbrev measured : tie.After-slice-known8 → tie.After-blur-error
-measured c = c .before .before .before .before .before .before
+measured c =
+    let earlier-2 = c .before .before .before .before .before in
+    let earlier = earlier-2 .before in
+    earlier
 
 abbrev mirrored : tie.After-blur-error → tie.After-mirror
-mirrored c = c .before .before .before .before .before .before .before
+mirrored c =
+    let earlier-2 = c .before .before .before .before .before in
+    let earlier = earlier-2 .before .before in
+    earlier
 
 mirror-requires : tie.Need-mirror-requires
 mirror-requires c κs = search needs

@@ -25,13 +25,22 @@ abbrev μ-loop : tie.MeasureT-loop
 
 -- where the function starts, where the sums are zeros, and a turn: where its block is known and where it is squared
 abbrev start : tie.After-fill-zero Inv-loop μ-loop → tie.Start Inv-loop μ-loop
-start c = c .before .before .before .before .before .before .before .before .before
+start c =
+    let earlier-2 = c .before .before .before .before .before in
+    let earlier = earlier-2 .before .before .before .before in
+    earlier
 
 abbrev zeros : tie.In-loop Inv-loop μ-loop → tie.After-fill-zero Inv-loop μ-loop
-zeros c = c .before .before .before .before .before .before
+zeros c =
+    let earlier-2 = c .before .before .before .before .before in
+    let earlier = earlier-2 .before in
+    earlier
 
 abbrev squared : tie.After-struct-known3 Inv-loop μ-loop → tie.After-square-block Inv-loop μ-loop
-squared c = c .before .before .before .before .before .before .before
+squared c =
+    let earlier-2 = c .before .before .before .before .before in
+    let earlier = earlier-2 .before .before in
+    earlier
 
 abbrev told : tie.After-square-block Inv-loop μ-loop → tie.After-block-at Inv-loop μ-loop
 told c = c .before .before .before .before
@@ -127,12 +136,16 @@ same-length-2 : tie.Need-same-length-2 Inv-loop μ-loop
 same-length-2 c = c .before .loop .inv .3
 
 same-length-3 : tie.Need-same-length-3 Inv-loop μ-loop
-same-length-3 c = omega (arith, c .before .loop .inv .4, c .before .before .before .before .before .before .fill-zero .kept)
+same-length-3 c =
+    let earlier = c .before .before .before .before .before in
+    let at-fill-zero = earlier .before in
+    omega (arith, c .before .loop .inv .4, at-fill-zero .fill-zero .kept)
 
 returns : tie.Need-returns Inv-loop μ-loop
 returns c =
+    let earlier = c .before .before .before .before .before in
+    let z = earlier .before in
     let l = c .before .loop in
-    let z = c .before .before .before .before .before .before in
     let s = start z in
     let w = s .args .v in
     let n = length (z .fill-zero .last .0) in

@@ -14,8 +14,10 @@ enum-known-mv c = search needs
 
 toggle-to-requires : tie.Need-toggle-to-requires
 toggle-to-requires c κs =
-    let a = c .before .before .before .before .before .before .before .before .before .args in
-    (held-inside (a .t) (a .w) (a .x) (a .y) (c .before .before .before .before .before .before .before .before .before .pre .0), (c .before .before .before .before .before .before .before .before .before .pre .1 .0, subst (NamesInk (a .inks .now)) (c .before .before .before .mv .given .1) (c .before .before .before .before .before .before .before .before .before .pre .1 .1)))
+    let earlier = c .before .before .before .before .before in
+    let start = earlier .before .before .before .before in
+    let a = start .args in
+    (held-inside (a .t) (a .w) (a .x) (a .y) (start .pre .0), (start .pre .1 .0, subst (NamesInk (a .inks .now)) (c .before .before .before .mv .given .1) (start .pre .1 .1)))
 
 enum-known-mv-2 : tie.Need-enum-known-mv-2
 enum-known-mv-2 c = search needs
@@ -35,7 +37,10 @@ same-length-2 c = search needs
 
 returns-2 : tie.Need-returns-2
 unfolding movedCpe movedIndices
-returns-2 c = rw (c .before .before .before .before .before .before .before .before .mv .given .1) (c .before .before .before .before .toggle-to .ensures)
+returns-2 c =
+    let earlier = c .before .before .before .before .before in
+    let at-mv = earlier .before .before .before in
+    rw (at-mv .mv .given .1) (c .before .before .before .before .toggle-to .ensures)
 
 same-length-3 : tie.Need-same-length-3
 same-length-3 c = search needs
@@ -45,7 +50,10 @@ same-length-4 c = search needs
 
 returns-3 : tie.Need-returns-3
 unfolding movedCpe movedIndices
-returns-3 c = rw (c .before .before .before .before .before .before .before .before .mv2 .given .1) (c .before .before .before .before .swap-by .ensures)
+returns-3 c =
+    let earlier = c .before .before .before .before .before in
+    let at-mv2 = earlier .before .before .before in
+    rw (at-mv2 .mv2 .given .1) (c .before .before .before .before .swap-by .ensures)
 
 pub apply-move-spec : {M : Type 1} → statement M
 apply-move-spec =

@@ -13,11 +13,13 @@ enum-known-nx c = search needs
 
 swap-with-requires : tie.Need-swap-with-requires
 swap-with-requires c κs =
-    let a = c .before .before .before .before .before .before .before .before .before .before .args in
-    let h = c .before .before .before .before .before .before .before .before .before .before .pre .0 in
+    let earlier = c .before .before .before .before .before in
+    let start = earlier .before .before .before .before .before in
+    let a = start .args in
+    let h = start .pre .0 in
     let found = sym (c .before .before .before .before .before .neighbour .ensures) ∙ c .before .before .before .nx .given .1 in
     let near = neighbour-inside (a .t) (a .w) (a .code) (a .x) (a .y) _ _ h found in
-    (held-inside (a .t) (a .w) (a .x) (a .y) h, (near .0, (c .before .before .before .before .before .before .before .before .before .before .pre .1, (near .1 .low, near .1 .high, near .2 .low, near .2 .high))))
+    (held-inside (a .t) (a .w) (a .x) (a .y) h, (near .0, (start .pre .1, (near .1 .low, near .1 .high, near .2 .low, near .2 .high))))
 
 enum-told : tie.Need-enum-told
 enum-told c = search needs
@@ -30,7 +32,10 @@ same-length-2 c = search needs
 
 returns : tie.Need-returns
 returns c =
-    let found = sym (c .before .before .before .before .before .before .before .before .before .before .neighbour .ensures) ∙ c .before .before .before .before .before .before .before .before .nx .given .1 in
+    let earlier = c .before .before .before .before .before in
+    let at-nx = earlier .before .before .before in
+    let at-neighbour = at-nx .before .before in
+    let found = sym (at-neighbour .neighbour .ensures) ∙ at-nx .nx .given .1 in
     rw found (c .before .before .before .before .swap-with .ensures)
 
 returns-2 : tie.Need-returns-2

@@ -9,15 +9,21 @@ index-at-requires : tie.Need-index-at-requires
 index-at-requires c κs = (c .before .before .before .before .before .pre .0, (window-limit (c .before .before .before .before .before .pre .1 .0), c .before .before .before .before .before .pre .1 .0 .indices-room))
 
 change-requires : tie.Need-change-requires
-change-requires c κs = (c .before .before .before .before .before .before .pre .1 .1, rw (c .index-at .ensures) (named-ink (c .before .before .before .before .before .before .pre .1 .0) (c .before .before .before .before .before .before .args .x) (c .before .before .before .before .before .before .args .y) (c .before .before .before .before .before .before .pre .0)))
+change-requires c κs =
+    let earlier = c .before .before .before .before .before in
+    let start = earlier .before in
+    (start .pre .1 .1, rw (c .index-at .ensures) (named-ink (start .pre .1 .0) (start .args .x) (start .args .y) (start .pre .0)))
 
 add-round-requires : tie.Need-add-round-requires
 add-round-requires c κs = search needs
 
 put-index-requires : tie.Need-put-index-requires
 put-index-requires c κs =
-    let w = c .before .before .before .before .before .before .before .before .before .before .before .before .pre .1 .0 in
-    (c .before .before .before .before .before .before .before .before .before .before .before .before .pre .0, ((window-limit w .0, window-limit w .1, omega (arith, c .before .before .before .before .before .before .before .before .before .before .before .before .pre .1 .1, w .inks-room)), w .indices-room))
+    let earlier = c .before .before .before .before .before in
+    let earlier-2 = earlier .before .before .before .before .before in
+    let start = earlier-2 .before .before in
+    let w = start .pre .1 .0 in
+    (start .pre .0, ((window-limit w .0, window-limit w .1, omega (arith, start .pre .1 .1, w .inks-room)), w .indices-room))
 
 same-length : tie.Need-same-length
 same-length c = search needs
@@ -26,7 +32,12 @@ same-length-2 : tie.Need-same-length-2
 same-length-2 c = search needs
 
 returns : tie.Need-returns
-returns c = (rw (c .before .before .before .before .before .before .add-round .ensures, c .before .before .before .before .before .before .before .before .change .ensures, c .before .before .before .before .before .before .before .before .before .index-at .ensures), c .before .before .put-index .ensures)
+returns c =
+    let earlier = c .before .before .before .before .before in
+    let at-add-round = earlier .before in
+    let at-change = at-add-round .before .before in
+    let at-index-at = at-change .before in
+    (rw (at-add-round .add-round .ensures, at-change .change .ensures, at-index-at .index-at .ensures), c .before .before .put-index .ensures)
 
 pub toggle-to-spec : {M : Type 1} → statement M
 toggle-to-spec =

@@ -32,7 +32,10 @@ x-move c = rw⁻¹ (kept (smalls (c .before .before) .0)) (sym (c .shifted .ensu
 y-move : (c : tie.After-shifted2) →
     let at = c .before .before .before .before .before .before in
     shiftedOf (at .before .before .before .args .y) (at .dx .given .0 .1 .0) (at .before .before .before .args .h) ≡ c .shifted2 .result
-y-move c = rw⁻¹ (kept (smalls (c .before .before .before .before .before .before) .1)) (sym (c .shifted2 .ensures))
+y-move c =
+    let earlier-2 = c .before .before .before .before .before in
+    let earlier = earlier-2 .before in
+    rw⁻¹ (kept (smalls (earlier) .1)) (sym (c .shifted2 .ensures))
 
 offset-at-requires : tie.Need-offset-at-requires
 offset-at-requires c κs = search needs

@@ -18,19 +18,31 @@ check-input-requires : tie.Need-check-input-requires
 check-input-requires c κs = search needs
 
 returns : tie.Need-returns
-returns c = (refused-first (I (c .before .before .before .before .before .before .before .before)) _ (c .before .before .before .check-input .ensures) _ _ _ _ _ _ _ _ (c .if1 .taken), λ z. absurd (c .if1 .taken z))
+returns c =
+    let earlier-2 = c .before .before .before .before .before in
+    let earlier = earlier-2 .before .before .before in
+    (refused-first (I (earlier)) _ (c .before .before .before .check-input .ensures) _ _ _ _ _ _ _ _ (c .if1 .taken), λ z. absurd (c .if1 .taken z))
 
 mul-field : tie.Need-mul-field
-mul-field c = omega (arith, few (I (c .before .before .before .before .before .before .before .before .before)) _ (c .before .before .before .before .check-input .ensures) (c .before .if1 .left))
+mul-field c =
+    let earlier-2 = c .before .before .before .before .before in
+    let earlier = earlier-2 .before .before .before .before in
+    omega (arith, few (I (earlier)) _ (c .before .before .before .before .check-input .ensures) (c .before .if1 .left))
 
 mul-field-2 : tie.Need-mul-field-2
-mul-field-2 c = omega (arith, few (I (c .before .before .before .before .before .before .before .before .before)) _ (c .before .before .before .before .check-input .ensures) (c .before .if1 .left))
+mul-field-2 c =
+    let earlier-2 = c .before .before .before .before .before in
+    let earlier = earlier-2 .before .before .before .before in
+    omega (arith, few (I (earlier)) _ (c .before .before .before .before .check-input .ensures) (c .before .if1 .left))
 
 mul-values : tie.Need-mul-values
 mul-values c = search needs
 
 tile-count-requires : tie.Need-tile-count-requires
-tile-count-requires c κs = rw (tiling-found (I (c .before .before .before .before .before .before .before .before .before)) _ (c .before .before .before .before .check-input .ensures) (c .before .if1 .left)) (limits (I (c .before .before .before .before .before .before .before .before .before)) _ (c .before .before .before .before .check-input .ensures) (c .before .if1 .left))
+tile-count-requires c κs =
+    let earlier-2 = c .before .before .before .before .before in
+    let earlier = earlier-2 .before .before .before .before in
+    rw (tiling-found (I (earlier)) _ (c .before .before .before .before .check-input .ensures) (c .before .if1 .left)) (limits (I (earlier)) _ (c .before .before .before .before .check-input .ensures) (c .before .if1 .left))
 
 check-open-requires : tie.Need-check-open-requires
 check-open-requires c κs = search needs
@@ -38,12 +50,15 @@ check-open-requires c κs = search needs
 returns-2 : tie.Need-returns-2
 unfolding pixelCount inkCount
 returns-2 c =
-    let a = c .before .before .before .before .before .before .before .before .before .before .before .args in
-    let found = tiling-found (I (c .before .before .before .before .before .before .before .before .before .before .before)) _ (c .before .before .before .before .before .before .check-input .ensures) (c .before .before .before .if1 .left) in
+    let earlier = c .before .before .before .before .before in
+    let at-check-input = earlier .before in
+    let start = at-check-input .before .before .before .before .before in
+    let a = start .args in
+    let found = tiling-found (I (start)) _ (at-check-input .check-input .ensures) (c .before .before .before .if1 .left) in
     let count = c .before .tile-count .ensures ∙ ap tiles found in (
-      run-judged (I (c .before .before .before .before .before .before .before .before .before .before .before)) _ (c .before .before .before .before .before .before .check-input .ensures) (a .max-passes) _ (a .cpe-len) (a .cpp-len) (a .accepted-per-pass-len) (a .tile-states-len) (a .deltas-len) (a .inks-len) (c .before .before .before .if1 .left)
+      run-judged (I (start)) _ (at-check-input .check-input .ensures) (a .max-passes) _ (a .cpe-len) (a .cpp-len) (a .accepted-per-pass-len) (a .tile-states-len) (a .deltas-len) (a .inks-len) (c .before .before .before .if1 .left)
           (c .check-open .ensures
-          ∙ ap (λ n. judge (openRunTests (a .max-passes) (3 * pixelCount (I (c .before .before .before .before .before .before .before .before .before .before .before))) (3 * inkCount (I (c .before .before .before .before .before .before .before .before .before .before .before))) n (a .cpe-len) (a .cpp-len) (a .accepted-per-pass-len) (a .tile-states-len) (a .deltas-len) (a .inks-len))) count),
+          ∙ ap (λ n. judge (openRunTests (a .max-passes) (3 * pixelCount (I (start))) (3 * inkCount (I (start))) n (a .cpe-len) (a .cpp-len) (a .accepted-per-pass-len) (a .tile-states-len) (a .deltas-len) (a .inks-len))) count),
       λ z. sym found,
     )
 

@@ -22,7 +22,10 @@ refused-requires c κs = search needs
 returns : tie.Need-returns
 unfolding openTestsOf
 returns c =
-    let o = O (c .before .before .before .before .before .before .before .before .before .before .before .before .before .before .before) in
+    let earlier-2 = c .before .before .before .before .before in
+    let earlier-3 = earlier-2 .before .before .before .before .before in
+    let earlier = earlier-3 .before .before .before .before .before in
+    let o = O (earlier) in
     ap₂ (λ s r. opened s r (o .cpe) (o .cpp) (o .states) (o .deltas) (o .inks)) (c .refused .ensures .0) (c .refused .ensures .1)
     ∙ open-answers o .kept _ (c .before .before .before .before .check .ensures .0) (c .before .if1 .taken)
 
@@ -34,7 +37,15 @@ clear-deltas-requires c κs = search needs
 
 prepare-requires : tie.Need-prepare-requires
 unfolding openTestsOf
-prepare-requires c κs = accepts (O (c .before .before .before .before .before .before .before .before .before .before .before .before .before .before .before .before .before .before .before .before .before .before .before .before .before)) _ (c .before .before .before .before .before .before .before .before .before .before .before .before .before .before .check .ensures .0) (c .before .before .before .before .before .before .before .before .before .before .before .if1 .left) _ (sym (c .before .before .before .before .before .before .before .before .before .before .before .before .before .before .check .ensures .1 (c .before .before .before .before .before .before .before .before .before .before .before .if1 .left)))
+prepare-requires c κs =
+    let earlier-2 = c .before .before .before .before .before in
+    let earlier-3 = earlier-2 .before .before .before .before .before in
+    let at-if1 = earlier-3 .before in
+    let at-check = at-if1 .before .before .before in
+    let earlier-4 = at-check .before .before .before .before .before in
+    let earlier-5 = earlier-4 .before .before .before .before .before in
+    let earlier = earlier-5 .before in
+    accepts (O (earlier)) _ (at-check .check .ensures .0) (at-if1 .if1 .left) _ (sym (at-check .check .ensures .1 (at-if1 .if1 .left)))
 
 same-length : tie.Need-same-length
 same-length c = search needs
@@ -53,7 +64,18 @@ same-length-5 c = search needs
 
 returns-2 : tie.Need-returns-2
 unfolding openTestsOf
-returns-2 c = opens-as (O (c .before .before .before .before .before .before .before .before .before .before .before .before .before .before .before .before .before .before .before .before .before .before .before .before .before .before .before .before .before .before .before .before)) _ (c .before .before .before .before .before .before .before .before .before .before .before .before .before .before .before .before .before .before .before .before .before .check .ensures .0) (c .before .before .before .before .before .before .before .before .before .before .before .before .before .before .before .before .before .before .if1 .left) _ _ _ _ _ _ _ (sym (c .before .before .before .before .before .before .before .before .before .before .before .before .before .before .before .before .before .before .before .before .before .check .ensures .1 (c .before .before .before .before .before .before .before .before .before .before .before .before .before .before .before .before .before .before .if1 .left))) (c .before .before .before .before .before .before .prepare .ensures) (c .before .before .before .before .before .before .before .before .before .before .before .before .before .before .before .before .clear-states .ensures) (c .before .before .before .before .before .before .before .before .before .before .before .before .clear-deltas .ensures)
+returns-2 c =
+    let earlier-2 = c .before .before .before .before .before in
+    let at-prepare = earlier-2 .before in
+    let earlier-3 = at-prepare .before .before .before .before .before in
+    let at-clear-deltas = earlier-3 .before in
+    let at-clear-states = at-clear-deltas .before .before .before .before in
+    let at-if1 = at-clear-states .before .before in
+    let at-check = at-if1 .before .before .before in
+    let earlier-4 = at-check .before .before .before .before .before in
+    let earlier-5 = earlier-4 .before .before .before .before .before in
+    let earlier = earlier-5 .before in
+    opens-as (O (earlier)) _ (at-check .check .ensures .0) (at-if1 .if1 .left) _ _ _ _ _ _ _ (sym (at-check .check .ensures .1 (at-if1 .if1 .left))) (at-prepare .prepare .ensures) (at-clear-states .clear-states .ensures) (at-clear-deltas .clear-deltas .ensures)
 
 pub open-spec : {M : Type 1} → statement M
 open-spec =

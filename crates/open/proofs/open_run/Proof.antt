@@ -17,13 +17,24 @@ O s =
 -- ---- the places that the proofs read: the open made, the run tested, and the start
 
 abbrev made : tie.After-slice-known12 → tie.After-open
-made c = c .before .before .before .before .before .before .before .before .before .before .before .before .before .before
+made c =
+    let earlier-2 = c .before .before .before .before .before in
+    let earlier-3 = earlier-2 .before .before .before .before .before in
+    let earlier = earlier-3 .before .before .before .before in
+    earlier
 
 abbrev passed : tie.After-open → tie.Else1
-passed c = c .before .before .before .before .before .before
+passed c =
+    let earlier-2 = c .before .before .before .before .before in
+    let earlier = earlier-2 .before in
+    earlier
 
 abbrev start : tie.After-check-run → tie.Start
-start c = c .before .before .before .before .before .before .before .before .before .before .before .before
+start c =
+    let earlier-2 = c .before .before .before .before .before in
+    let earlier-3 = earlier-2 .before .before .before .before .before in
+    let earlier = earlier-3 .before .before in
+    earlier
 
 check-run-requires : tie.Need-check-run-requires
 check-run-requires c κs = search needs
@@ -38,7 +49,10 @@ open-requires c κs = search needs
 enter-requires : tie.Need-enter-requires
 unfolding runTest
 enter-requires c κs =
-    let k = passed (c .before .before .before .before .before .before .before .before .before .before .before) in
+    let earlier-2 = c .before .before .before .before .before in
+    let earlier-3 = earlier-2 .before .before .before .before .before in
+    let earlier = earlier-3 .before in
+    let k = passed (earlier) in
     let r = k .before .before in
     written-whole (start r .args .«record» .now) (r .check-run .ensures) (k .if1 .left)
 

@@ -13,7 +13,10 @@ gaussian-blur-requires : tie.Need-gaussian-blur-requires
 gaussian-blur-requires c κs = rw (c .before .eye-sigma-px .ensures) (c .before .before .before .pre)
 
 blur-radius-requires : tie.Need-blur-radius-requires
-blur-radius-requires c κs = rw (c .before .before .before .before .eye-sigma-px .ensures) (c .before .before .before .before .before .before .pre .0)
+blur-radius-requires c κs =
+    let earlier = c .before .before .before .before .before in
+    let start = earlier .before in
+    rw (c .before .before .before .before .eye-sigma-px .ensures) (start .pre .0)
 
 same-length : tie.Need-same-length
 same-length c = search needs

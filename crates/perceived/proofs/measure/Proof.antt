@@ -21,13 +21,22 @@ check-input-requires : tie.Need-check-input-requires
 check-input-requires c κs = search needs
 
 returns : tie.Need-returns
-returns c = refused-is (I (c .before .before .before .before .before .before .before .before)) (c .before .before .before .check-input .result) (c .before .before .before .check-input .ensures) (c .if1 .taken)
+returns c =
+    let earlier-2 = c .before .before .before .before .before in
+    let earlier = earlier-2 .before .before .before in
+    refused-is (I (earlier)) (c .before .before .before .check-input .result) (c .before .before .before .check-input .ensures) (c .if1 .taken)
 
 perceived-error-requires : tie.Need-perceived-error-requires
-perceived-error-requires c κs = checked-accepted (I (c .before .before .before .before .before .before .before .before)) (ap (λ (e : Eye). e .status .number) (sym (c .before .before .before .check-input .ensures)) ∙ c .if1 .left)
+perceived-error-requires c κs =
+    let earlier-2 = c .before .before .before .before .before in
+    let earlier = earlier-2 .before .before .before in
+    checked-accepted (I (earlier)) (ap (λ (e : Eye). e .status .number) (sym (c .before .before .before .check-input .ensures)) ∙ c .if1 .left)
 
 returns-2 : tie.Need-returns-2
-returns-2 c = ap measuredAs (c .perceived-error .ensures) ∙ accepted-is (I (c .before .before .before .before .before .before .before .before .before)) (c .before .before .before .before .check-input .result) (c .before .before .before .before .check-input .ensures) (c .before .if1 .left)
+returns-2 c =
+    let earlier-2 = c .before .before .before .before .before in
+    let earlier = earlier-2 .before .before .before .before in
+    ap measuredAs (c .perceived-error .ensures) ∙ accepted-is (I (earlier)) (c .before .before .before .before .check-input .result) (c .before .before .before .before .check-input .ensures) (c .before .if1 .left)
 
 pub measure-spec : {M : Type 1} → statement M
 measure-spec =

@@ -21,32 +21,53 @@ cut : (n m : ℕ) (room : List Float) → n ≤ m → length room ≡ m → leng
 cut n m room h e = length-take-le n room (omega arith)
 
 blur-len-requires : tie.Need-blur-len-requires
-blur-len-requires c κs = narrow (I (c .before .before .before .before .before .before)) (c .before .before .before .before .before .before .pre .1 .0) .0
+blur-len-requires c κs =
+    let earlier = c .before .before .before .before .before in
+    let start = earlier .before in
+    narrow (I (start)) (start .pre .1 .0) .0
 
 blur-len-requires-2 : tie.Need-blur-len-requires-2
-blur-len-requires-2 c κs = narrow (I (c .before .before .before .before .before .before .before)) (c .before .before .before .before .before .before .before .pre .1 .0) .1
+blur-len-requires-2 c κs =
+    let earlier = c .before .before .before .before .before in
+    let start = earlier .before .before in
+    narrow (I (start)) (start .pre .1 .0) .1
 
 slice-relend-prefix-perceived-with : tie.Need-slice-relend-prefix-perceived-with
-slice-relend-prefix-perceived-with c = omega (arith, few-inks (I (c .before .before .before .before .before .before .before .before)) (c .before .before .before .before .before .before .before .before .pre .1 .0), c .before .before .before .before .before .before .before .before .pre .1 .1 .0)
+slice-relend-prefix-perceived-with c =
+    let earlier = c .before .before .before .before .before in
+    let start = earlier .before .before .before in
+    omega (arith, few-inks (I (start)) (start .pre .1 .0), start .pre .1 .1 .0)
 
 slice-aggregate-perceived-with : tie.Need-slice-aggregate-perceived-with
-slice-aggregate-perceived-with c = sym (cut _ _ _ (few-inks (I (c .before .before .before .before .before .before .before .before .before)) (c .before .before .before .before .before .before .before .before .before .pre .1 .0)) (c .before .before .before .before .before .before .before .before .before .pre .1 .1 .0))
+slice-aggregate-perceived-with c =
+    let earlier = c .before .before .before .before .before in
+    let start = earlier .before .before .before .before in
+    sym (cut _ _ _ (few-inks (I (start)) (start .pre .1 .0)) (start .pre .1 .1 .0))
 
 slice-relend-prefix-perceived-with-2 : tie.Need-slice-relend-prefix-perceived-with-2
 slice-relend-prefix-perceived-with-2 c = search needs
 
 slice-aggregate-perceived-with-2 : tie.Need-slice-aggregate-perceived-with-2
-slice-aggregate-perceived-with-2 c = sym (cut _ _ _ (c .before .before .before .blur-len .ensures .1) (c .before .before .before .before .before .before .before .before .before .before .pre .1 .1 .1))
+slice-aggregate-perceived-with-2 c =
+    let earlier = c .before .before .before .before .before in
+    let start = earlier .before .before .before .before .before in
+    sym (cut _ _ _ (c .before .before .before .blur-len .ensures .1) (start .pre .1 .1 .1))
 
 slice-relend-prefix-perceived-with-3 : tie.Need-slice-relend-prefix-perceived-with-3
 slice-relend-prefix-perceived-with-3 c = search needs
 
 slice-aggregate-perceived-with-3 : tie.Need-slice-aggregate-perceived-with-3
-slice-aggregate-perceived-with-3 c = sym (cut _ _ _ (c .before .before .before .blur-len2 .ensures .1) (c .before .before .before .before .before .before .before .before .before .before .before .pre .1 .1 .2))
+slice-aggregate-perceived-with-3 c =
+    let earlier = c .before .before .before .before .before in
+    let earlier-2 = earlier .before .before .before .before .before in
+    let start = earlier-2 .before in
+    sym (cut _ _ _ (c .before .before .before .blur-len2 .ensures .1) (start .pre .1 .1 .2))
 
 perceived-with-requires : tie.Need-perceived-with-requires
 perceived-with-requires c κs =
-    let s = c .before .before .before .before .before .before .before .before .before .before .before in
+    let earlier = c .before .before .before .before .before in
+    let earlier-2 = earlier .before .before .before .before .before in
+    let s = earlier-2 .before in
     let l = c .before .before .before .before .blur-len .ensures in
     let h = c .before .before .before .blur-len2 .ensures in (
       s .pre .0,

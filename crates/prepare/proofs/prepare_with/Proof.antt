@@ -19,21 +19,36 @@ cpe-room s = s .pre .1 .cpe-length
 
 palette-to-inks-requires : tie.Need-palette-to-inks-requires
 palette-to-inks-requires c κs =
-    let a = c .before .before .before .before .before .before .before .before .pre .1 in
-    (c .before .before .before .before .before .before .before .before .pre .0, (palette-whole (I (c .before .before .before .before .before .before .before .before)) (a .passes), a .inks-length ∙ sym (valid (I (c .before .before .before .before .before .before .before .before)) (a .passes) .palette-length)))
+    let earlier = c .before .before .before .before .before in
+    let start = earlier .before .before .before in
+    let a = start .pre .1 in
+    (start .pre .0, (palette-whole (I (start)) (a .passes), a .inks-length ∙ sym (valid (I (start)) (a .passes) .palette-length)))
 
 eye-kernels-requires : tie.Need-eye-kernels-requires
-eye-kernels-requires c κs = (eye-ok (I (c .before .before .before .before .before .before .before .before .before .before .before .before)) (c .before .before .before .before .before .before .before .before .before .before .before .before .pre .1 .passes), c .before .before .before .before .before .before .before .before .before .before .before .before .pre .1 .cpp-length)
+eye-kernels-requires c κs =
+    let earlier = c .before .before .before .before .before in
+    let earlier-2 = earlier .before .before .before .before .before in
+    let start = earlier-2 .before .before in
+    (eye-ok (I (start)) (start .pre .1 .passes), start .pre .1 .cpp-length)
 
 initial-field-requires : tie.Need-initial-field-requires
 initial-field-requires c κs =
-    let a = c .before .before .before .before .before .before .before .before .before .before .before .before .before .before .before .before .before .before .pre .1 in
-    (c .before .before .before .before .before .before .before .before .before .before .before .before .before .before .before .before .before .before .pre .0, (field-fits (I (c .before .before .before .before .before .before .before .before .before .before .before .before .before .before .before .before .before .before)) (c .before .before .before .before .before .before .before .before .before .before .before .before .before .before .before .before .before .before .args .t) _ (c .before .before .before .before .before .before .before .before .before .before .before .before .before .before .before .before .before .before .args .cpp .now) _ (a .tiling) (c .before .before .before .before .before .before .before .before .before .palette-to-inks .ensures) (c .before .before .before .before .before .eye-kernels .ensures) (a .passes) (a .cpp-length), cpe-room (c .before .before .before .before .before .before .before .before .before .before .before .before .before .before .before .before .before .before)))
+    let earlier = c .before .before .before .before .before in
+    let at-palette-to-inks = earlier .before .before .before .before in
+    let earlier-2 = at-palette-to-inks .before .before .before .before .before in
+    let start = earlier-2 .before .before .before .before in
+    let a = start .pre .1 in
+    (start .pre .0, (field-fits (I (start)) (start .args .t) _ (start .args .cpp .now) _ (a .tiling) (at-palette-to-inks .palette-to-inks .ensures) (c .before .before .before .before .before .eye-kernels .ensures) (a .passes) (a .cpp-length), cpe-room (start)))
 
 initial-error-requires : tie.Need-initial-error-requires
 initial-error-requires c κs =
-    let a = c .before .before .before .before .before .before .before .before .before .before .before .before .before .before .before .before .before .before .before .before .before .before .before .pre .1 in
-    (c .before .before .before .before .before .before .before .before .before .before .before .before .before .before .before .before .before .before .before .before .before .before .before .pre .0, (scene-fits-as (I (c .before .before .before .before .before .before .before .before .before .before .before .before .before .before .before .before .before .before .before .before .before .before .before)) (c .before .before .before .before .before .before .before .before .before .before .before .before .before .before .before .before .before .before .before .before .before .before .before .args .t) _ (c .before .before .before .before .before .before .before .before .before .before .before .before .before .before .before .before .before .before .before .before .before .before .before .args .cpp .now) _ (a .tiling) (c .before .before .before .before .before .before .before .before .before .before .before .before .before .before .palette-to-inks .ensures) (c .before .before .before .before .before .before .before .before .before .before .eye-kernels .ensures) (a .passes), ap length (c .before .before .before .before .initial-field .ensures) ∙ length-field _ _ _))
+    let earlier = c .before .before .before .before .before in
+    let at-eye-kernels = earlier .before .before .before .before .before in
+    let at-palette-to-inks = at-eye-kernels .before .before .before .before in
+    let earlier-2 = at-palette-to-inks .before .before .before .before .before in
+    let start = earlier-2 .before .before .before .before in
+    let a = start .pre .1 in
+    (start .pre .0, (scene-fits-as (I (start)) (start .args .t) _ (start .args .cpp .now) _ (a .tiling) (at-palette-to-inks .palette-to-inks .ensures) (at-eye-kernels .eye-kernels .ensures) (a .passes), ap length (c .before .before .before .before .initial-field .ensures) ∙ length-field _ _ _))
 
 same-length : tie.Need-same-length
 same-length c = search needs
@@ -47,11 +62,17 @@ same-length-3 c = search needs
 returns : tie.Need-returns
 unfolding inksOf cppOf
 returns c =
-    let a = c .before .before .before .before .before .before .before .before .before .before .before .before .before .before .before .before .before .before .before .before .before .before .before .before .pre .1 in
-    let i = c .before .before .before .before .before .before .before .before .before .before .before .before .before .before .before .palette-to-inks .ensures in
-    let k = c .before .before .before .before .before .before .before .before .before .before .before .eye-kernels .ensures in
-    let f = c .before .before .before .before .before .initial-field .ensures ∙ field-is (I (c .before .before .before .before .before .before .before .before .before .before .before .before .before .before .before .before .before .before .before .before .before .before .before .before)) (c .before .before .before .before .before .before .before .before .before .before .before .before .before .before .before .before .before .before .before .before .before .before .before .before .args .t) _ (c .before .before .before .before .before .before .before .before .before .before .before .before .before .before .before .before .before .before .before .before .before .before .before .before .args .cpp .now) _ (a .tiling) i k in
-    record { inks-is = i; cpp-is = k; cpe-is = f; error-is = c .initial-error .ensures ∙ error-is (I (c .before .before .before .before .before .before .before .before .before .before .before .before .before .before .before .before .before .before .before .before .before .before .before .before)) (c .before .before .before .before .before .before .before .before .before .before .before .before .before .before .before .before .before .before .before .before .before .before .before .before .args .t) _ (c .before .before .before .before .before .before .before .before .before .before .before .before .before .before .before .before .before .before .before .before .before .before .before .before .args .cpp .now) _ (a .tiling) i k _ f }
+    let earlier = c .before .before .before .before .before in
+    let earlier-2 = earlier .before .before .before .before .before in
+    let at-eye-kernels = earlier-2 .before in
+    let at-palette-to-inks = at-eye-kernels .before .before .before .before in
+    let earlier-3 = at-palette-to-inks .before .before .before .before .before in
+    let start = earlier-3 .before .before .before .before in
+    let a = start .pre .1 in
+    let i = at-palette-to-inks .palette-to-inks .ensures in
+    let k = at-eye-kernels .eye-kernels .ensures in
+    let f = c .before .before .before .before .before .initial-field .ensures ∙ field-is (I (start)) (start .args .t) _ (start .args .cpp .now) _ (a .tiling) i k in
+    record { inks-is = i; cpp-is = k; cpe-is = f; error-is = c .initial-error .ensures ∙ error-is (I (start)) (start .args .t) _ (start .args .cpp .now) _ (a .tiling) i k _ f }
 
 pub prepare-with-spec : {M : Type 1} → statement M
 prepare-with-spec =

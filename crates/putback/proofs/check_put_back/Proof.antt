@@ -54,7 +54,10 @@ check-named-requires c κs = search needs
 
 returns : tie.Need-returns
 unfolding putBackTests pixelsOf countTest copyTest Numbered
-returns c = after-record _ _ (omega arith) (rw (c .check-named .ensures, c .before .check-state .ensures, c .before .before .check-copy .ensures, c .before .before .before .check-deltas .ensures, c .before .before .before .before .check-image .ensures, c .before .before .before .before .before .check-turn .ensures, c .before .before .before .before .before .before .check-record .ensures))
+returns c =
+    let earlier = c .before .before .before .before .before in
+    let at-check-record = earlier .before in
+    after-record _ _ (omega arith) (rw (c .check-named .ensures, c .before .check-state .ensures, c .before .before .check-copy .ensures, c .before .before .before .check-deltas .ensures, c .before .before .before .before .check-image .ensures, c .before .before .before .before .before .check-turn .ensures, at-check-record .check-record .ensures))
 
 pub check-put-back-spec : {M : Type 1} → statement M
 check-put-back-spec =

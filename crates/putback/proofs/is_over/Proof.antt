@@ -25,21 +25,28 @@ tile-size-requires c κs = (limits-of (c .before .before .before .before .before
 
 sub-result : tie.Need-sub-result
 unfolding pixelsOf
-sub-result c = omega (arith, c .before .before .before .before .before .before .before .before .pre .accepted-most)
+sub-result c =
+    let earlier = c .before .before .before .before .before in
+    let start = earlier .before .before .before in
+    omega (arith, start .pre .accepted-most)
 
 returns : tie.Need-returns
 unfolding countTest
 returns c =
-    let a = c .before .before .before .before .before .before .before .args in
+    let earlier = c .before .before .before .before .before in
+    let start = earlier .before .before in
+    let a = start .args in
     rw (← c .before .tile-size .ensures) (above-size (a .tile) (tiles (a .r .plan .tiling)) (c .before .tile-size .result) (a .accepted) (ltb-true _ _ (sym (c .before .before .before .before .has-tile .ensures) ∙ c .before .before .before .if1 .taken)) _ (c .if2 .taken))
 
 returns-2 : tie.Need-returns-2
 unfolding countTest pixelsOf
 returns-2 c =
-    let a = c .before .before .before .before .before .before .before .before .args in
+    let earlier = c .before .before .before .before .before in
+    let start = earlier .before .before .before in
+    let a = start .args in
     rw (← c .before .before .tile-size .ensures)
     (above-left (a .tile) (tiles (a .r .plan .tiling)) (c .before .before .tile-size .result) (a .accepted) (ltb-true _ _ (sym (c .before .before .before .before .before .has-tile .ensures) ∙ c .before .before .before .before .if1 .taken))
-    (a .r .plan .tiling .height * a .r .plan .tiling .width) (a .r .accepted) (c .before .if2 .left) (c .before .before .before .before .before .before .before .before .pre .accepted-most))
+    (a .r .plan .tiling .height * a .r .plan .tiling .width) (a .r .accepted) (c .before .if2 .left) (start .pre .accepted-most))
 
 returns-3 : tie.Need-returns-3
 unfolding countTest

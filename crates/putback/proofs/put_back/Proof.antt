@@ -35,10 +35,17 @@ valid s e z =
 -- ---- the places that the proofs read: all tests passed, the tests made, and the start
 
 abbrev passed : tie.After-state-byte → tie.Else1
-passed c = c .before .before .before .before .before .before .before .before .before
+passed c =
+    let earlier-2 = c .before .before .before .before .before in
+    let earlier = earlier-2 .before .before .before .before in
+    earlier
 
 abbrev start : tie.After-check-put-back → tie.Start
-start c = c .before .before .before .before .before .before .before .before .before .before .before
+start c =
+    let earlier-2 = c .before .before .before .before .before in
+    let earlier-3 = earlier-2 .before .before .before .before .before in
+    let earlier = earlier-3 .before in
+    earlier
 
 abbrev record-of : tie.Else1 → JobRecord
 record-of k = start (k .before .before) .args .r
@@ -110,13 +117,15 @@ same-length-8 c = search needs
 returns-2 : tie.Need-returns-2
 unfolding withProgress
 returns-2 c =
+    let earlier = c .before .before .before .before .before in
+    let at-write-region = earlier .before in
     let k = passed (c .before) in
     let t = k .before .before in
     let s = start t in
     let a = s .args in
     rw (c .before .state-byte .ensures)
     (ap (λ p. putBack (t .check-put-back .result) (withProgress (a .r) (progressOf (a .accepted) (a .delta))) p (set (a .tile-states .now) (a .tile) 2) (set (a .deltas .now) (a .tile) (a .delta)))
-    (c .before .before .before .before .before .before .write-region .ensures)
+    (at-write-region .write-region .ensures)
     ∙ putBack-answers (a .r) (a .tile) (image s) (a .tile-states .now) (a .deltas .now) (brought s) .made _ (t .check-put-back .ensures) (k .if1 .left))
 
 pub put-back-spec : {M : Type 1} → statement M

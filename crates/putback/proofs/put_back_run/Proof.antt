@@ -9,7 +9,11 @@ use Rattle.putback.proofs.put_back_run.Tie as tie
 -- ---- the places that the proofs read: the call made, the run read, and the start
 
 abbrev made : tie.After-slice-known10 → tie.After-put-back
-made c = c .before .before .before .before .before .before .before .before .before .before .before .before
+made c =
+    let earlier-2 = c .before .before .before .before .before in
+    let earlier-3 = earlier-2 .before .before .before .before .before in
+    let earlier = earlier-3 .before .before in
+    earlier
 
 abbrev passed : tie.After-put-back → tie.Else1
 passed c = c .before .before .before .before .before
@@ -18,7 +22,10 @@ abbrev run : tie.Else1 → tie.After-read
 run c = c .before .before .before
 
 abbrev start : tie.After-read → tie.Start
-start c = c .before .before .before .before .before .before .before .before .before
+start c =
+    let earlier-2 = c .before .before .before .before .before in
+    let earlier = earlier-2 .before .before .before .before in
+    earlier
 
 read-requires : tie.Need-read-requires
 read-requires c κs = search needs
@@ -34,7 +41,10 @@ put-back-requires : tie.Need-put-back-requires
 put-back-requires c κs = search needs
 
 leave-requires : tie.Need-leave-requires
-leave-requires c κs = let k = passed (c .before .before .before .before .before .before .before .before .before) in run k .read .ensures .1 (k .if1 .left) .0
+leave-requires c κs =
+    let earlier-2 = c .before .before .before .before .before in
+    let earlier = earlier-2 .before .before .before .before in
+    let k = passed (earlier) in run k .read .ensures .1 (k .if1 .left) .0
 
 same-length-2 : tie.Need-same-length-2
 same-length-2 c = search needs

@@ -24,7 +24,9 @@ returns c = rw (← c .before .before .check-plan .ensures) (stays _ (_ ∷ _ �
 mul-n : tie.Need-mul-n
 unfolding recordTests Numbered Passes
 mul-n c =
-    let r = c .before .before .before .before .before .before .args .r in
+    let earlier = c .before .before .before .before .before in
+    let start = earlier .before in
+    let r = start .args .r in
     let t = r .plan .tiling in
     let p = zero-from accepted (take 5 (recordTests r)) (omega arith) (ap (λ (u : Status). u .number) (sym (c .before .before .before .before .before .check-plan .ensures)) ∙ c .before .before .before .if1 .left) in
     let h = size-iff (t .width) (t .height) .0 (p .1 .0) in
@@ -47,7 +49,12 @@ limit-requires-4 c κs = search needs
 
 returns-2 : tie.Need-returns-2
 unfolding recordTests pixelsOf
-returns-2 c = rw (c .limit4 .ensures, c .before .before .limit3 .ensures, c .before .before .before .is-spent .ensures, c .before .before .before .before .limit2 .ensures, c .before .before .before .before .before .before .limit .ensures, c .before .before .before .before .before .before .before .before .before .before .before .before .before .before .check-plan .ensures)
+returns-2 c =
+    let earlier = c .before .before .before .before .before in
+    let at-limit = earlier .before in
+    let earlier-2 = at-limit .before .before .before .before .before in
+    let at-check-plan = earlier-2 .before .before .before in
+    rw (c .limit4 .ensures, c .before .before .limit3 .ensures, c .before .before .before .is-spent .ensures, c .before .before .before .before .limit2 .ensures, at-limit .limit .ensures, at-check-plan .check-plan .ensures)
 
 pub check-record-spec : {M : Type 1} → statement M
 check-record-spec =

@@ -44,17 +44,28 @@ same-length c = search needs
 
 returns : tie.Need-returns
 returns c =
-    let a = c .before .before .before .before .before .before .before .before .before .before .before .before .before .before .args in
+    let earlier = c .before .before .before .before .before in
+    let earlier-2 = earlier .before .before .before .before .before in
+    let start = earlier-2 .before .before .before .before in
+    let a = start .args in
     let e = c .before .before .before .before .check-input .ensures in
     let s = c .before .before .before .before .check-input .result .status in
-    let v = input-verdict (I (c .before .before .before .before .before .before .before .before .before .before .before .before .before .before)) (a .max-passes) (a .cpe .now) (a .cpp .now) (a .accepted-per-pass .now) (a .inks .now) (λ z. c .before .if1 .taken (ap (λ (q : Eye). q .status .number) e ∙ z)) ∙ ap (λ (q : Eye). q .status) (sym e) in
-    rw (c .refused .ensures) (refused-is (I (c .before .before .before .before .before .before .before .before .before .before .before .before .before .before)) (a .max-passes) (a .cpe .now) (a .cpp .now) (a .accepted-per-pass .now) (a .inks .now) s v (c .before .if1 .taken))
+    let v = input-verdict (I (start)) (a .max-passes) (a .cpe .now) (a .cpp .now) (a .accepted-per-pass .now) (a .inks .now) (λ z. c .before .if1 .taken (ap (λ (q : Eye). q .status .number) e ∙ z)) ∙ ap (λ (q : Eye). q .status) (sym e) in
+    rw (c .refused .ensures) (refused-is (I (start)) (a .max-passes) (a .cpe .now) (a .cpp .now) (a .accepted-per-pass .now) (a .inks .now) s v (c .before .if1 .taken))
 
 mul-field : tie.Need-mul-field
-mul-field c = omega (arith, small-image (c .before .before .before .before .before .before .before .before .before .before .before .before .before .before) (c .before .before .before .before .check-input .result) (c .before .before .before .before .check-input .ensures) (c .before .if1 .left))
+mul-field c =
+    let earlier-2 = c .before .before .before .before .before in
+    let earlier-3 = earlier-2 .before .before .before .before .before in
+    let earlier = earlier-3 .before .before .before .before in
+    omega (arith, small-image (earlier) (c .before .before .before .before .check-input .result) (c .before .before .before .before .check-input .ensures) (c .before .if1 .left))
 
 mul-field-2 : tie.Need-mul-field-2
-mul-field-2 c = omega (arith, small-image (c .before .before .before .before .before .before .before .before .before .before .before .before .before .before) (c .before .before .before .before .check-input .result) (c .before .before .before .before .check-input .ensures) (c .before .if1 .left))
+mul-field-2 c =
+    let earlier-2 = c .before .before .before .before .before in
+    let earlier-3 = earlier-2 .before .before .before .before .before in
+    let earlier = earlier-3 .before .before .before .before in
+    omega (arith, small-image (earlier) (c .before .before .before .before .check-input .result) (c .before .before .before .before .check-input .ensures) (c .before .if1 .left))
 
 mul-values : tie.Need-mul-values
 mul-values c = search needs
@@ -71,19 +82,29 @@ same-length-2 c = search needs
 returns-2 : tie.Need-returns-2
 unfolding pixelCount inkCount
 returns-2 c =
-    let a = c .before .before .before .before .before .before .before .before .before .before .before .before .before .before .before .before .before .before .args in
-    let e = c .before .before .before .before .before .before .before .before .check-input .ensures in
-    let v = run-verdict (I (c .before .before .before .before .before .before .before .before .before .before .before .before .before .before .before .before .before .before)) (a .max-passes) (a .cpe .now) (a .cpp .now) (a .accepted-per-pass .now) (a .inks .now) (ap (λ (q : Eye). q .status .number) (sym e) ∙ c .before .before .before .before .before .if1 .left) ∙ sym (c .before .before .before .check-refine .ensures) in
-    rw (c .refused2 .ensures) (refused-is (I (c .before .before .before .before .before .before .before .before .before .before .before .before .before .before .before .before .before .before)) (a .max-passes) (a .cpe .now) (a .cpp .now) (a .accepted-per-pass .now) (a .inks .now) (c .before .before .before .check-refine .result) v (c .before .if2 .taken))
+    let earlier = c .before .before .before .before .before in
+    let at-check-input = earlier .before .before .before in
+    let earlier-2 = at-check-input .before .before .before .before .before in
+    let start = earlier-2 .before .before .before .before .before in
+    let a = start .args in
+    let e = at-check-input .check-input .ensures in
+    let v = run-verdict (I (start)) (a .max-passes) (a .cpe .now) (a .cpp .now) (a .accepted-per-pass .now) (a .inks .now) (ap (λ (q : Eye). q .status .number) (sym e) ∙ c .before .before .before .before .before .if1 .left) ∙ sym (c .before .before .before .check-refine .ensures) in
+    rw (c .refused2 .ensures) (refused-is (I (start)) (a .max-passes) (a .cpe .now) (a .cpp .now) (a .accepted-per-pass .now) (a .inks .now) (c .before .before .before .check-refine .result) v (c .before .if2 .taken))
 
 refine-accepted-requires : tie.Need-refine-accepted-requires
 refine-accepted-requires c κs =
-    let a = c .before .before .before .before .before .before .before .before .before .before .before .before .before .before .before .before .before .before .before .before .before .before .args in
-    let e = c .before .before .before .before .before .before .before .before .before .before .before .before .check-input .ensures in
-    let l = run-lengths (c .before .before .before .before .before .before .before .before .before .before .before .before .before .before .before .before .before .before .before .before .before .before) (c .before .before .before .before .before .before .before .check-refine .result) (c .before .before .before .before .before .before .before .check-refine .ensures) (c .before .before .before .before .before .if2 .left) in
+    let earlier = c .before .before .before .before .before in
+    let at-check-refine = earlier .before .before in
+    let at-if1 = at-check-refine .before .before in
+    let at-check-input = at-if1 .before .before .before in
+    let earlier-2 = at-check-input .before .before .before .before .before in
+    let start = earlier-2 .before .before .before .before .before in
+    let a = start .args in
+    let e = at-check-input .check-input .ensures in
+    let l = run-lengths (start) (at-check-refine .check-refine .result) (at-check-refine .check-refine .ensures) (c .before .before .before .before .before .if2 .left) in
     record {
-      passes = checked-accepted (I (c .before .before .before .before .before .before .before .before .before .before .before .before .before .before .before .before .before .before .before .before .before .before)) (ap (λ (q : Eye). q .status .number) (sym e) ∙ c .before .before .before .before .before .before .before .before .before .if1 .left);
-      tiling = tiling-is (I (c .before .before .before .before .before .before .before .before .before .before .before .before .before .before .before .before .before .before .before .before .before .before)) (c .before .before .before .before .before .before .before .before .before .before .before .before .check-input .result) e (c .before .before .before .before .before .before .before .before .before .if1 .left);
+      passes = checked-accepted (I (start)) (ap (λ (q : Eye). q .status .number) (sym e) ∙ at-if1 .if1 .left);
+      tiling = tiling-is (I (start)) (at-check-input .check-input .result) e (at-if1 .if1 .left);
       inks-length = l .inks-length;
       cpp-length = l .cpp-length;
       cpe-length = l .cpe-length;
@@ -107,13 +128,22 @@ same-length-7 c = search needs
 returns-3 : tie.Need-returns-3
 unfolding pixelCount inkCount
 returns-3 c =
-    let a = c .before .before .before .before .before .before .before .before .before .before .before .before .before .before .before .before .before .before .before .before .before .before .before .before .before .before .before .before .before .before .before .before .before .args in
-    let e = c .before .before .before .before .before .before .before .before .before .before .before .before .before .before .before .before .before .before .before .before .before .before .before .check-input .ensures in
-    let v = run-verdict (I (c .before .before .before .before .before .before .before .before .before .before .before .before .before .before .before .before .before .before .before .before .before .before .before .before .before .before .before .before .before .before .before .before .before)) (a .max-passes) (a .cpe .now) (a .cpp .now) (a .accepted-per-pass .now) (a .inks .now) (ap (λ (q : Eye). q .status .number) (sym e) ∙ c .before .before .before .before .before .before .before .before .before .before .before .before .before .before .before .before .before .before .before .before .if1 .left) ∙ sym (c .before .before .before .before .before .before .before .before .before .before .before .before .before .before .before .before .before .before .check-refine .ensures) in
-    let l = run-lengths (c .before .before .before .before .before .before .before .before .before .before .before .before .before .before .before .before .before .before .before .before .before .before .before .before .before .before .before .before .before .before .before .before .before) (c .before .before .before .before .before .before .before .before .before .before .before .before .before .before .before .before .before .before .check-refine .result) (c .before .before .before .before .before .before .before .before .before .before .before .before .before .before .before .before .before .before .check-refine .ensures) (c .before .before .before .before .before .before .before .before .before .before .before .before .before .before .before .before .if2 .left) in
-    c .before .before .before .before .before .before .before .before .before .before .refine-accepted .ensures
-    ∙ ap (λ (n : ℕ). refineAccepted (I (c .before .before .before .before .before .before .before .before .before .before .before .before .before .before .before .before .before .before .before .before .before .before .before .before .before .before .before .before .before .before .before .before .before)) n (a .cpp .now) (a .accepted-per-pass .now)) (l .counts-length)
-    ∙ accepted-is (I (c .before .before .before .before .before .before .before .before .before .before .before .before .before .before .before .before .before .before .before .before .before .before .before .before .before .before .before .before .before .before .before .before .before)) (a .max-passes) (a .cpe .now) (a .cpp .now) (a .accepted-per-pass .now) (a .inks .now) (ap (λ (q : Status). q .number) v ∙ c .before .before .before .before .before .before .before .before .before .before .before .before .before .before .before .before .if2 .left)
+    let earlier = c .before .before .before .before .before in
+    let at-refine-accepted = earlier .before .before .before .before .before in
+    let earlier-2 = at-refine-accepted .before .before .before .before .before in
+    let at-if2 = earlier-2 .before in
+    let at-check-refine = at-if2 .before .before in
+    let at-if1 = at-check-refine .before .before in
+    let at-check-input = at-if1 .before .before .before in
+    let earlier-3 = at-check-input .before .before .before .before .before in
+    let start = earlier-3 .before .before .before .before .before in
+    let a = start .args in
+    let e = at-check-input .check-input .ensures in
+    let v = run-verdict (I (start)) (a .max-passes) (a .cpe .now) (a .cpp .now) (a .accepted-per-pass .now) (a .inks .now) (ap (λ (q : Eye). q .status .number) (sym e) ∙ at-if1 .if1 .left) ∙ sym (at-check-refine .check-refine .ensures) in
+    let l = run-lengths (start) (at-check-refine .check-refine .result) (at-check-refine .check-refine .ensures) (at-if2 .if2 .left) in
+    at-refine-accepted .refine-accepted .ensures
+    ∙ ap (λ (n : ℕ). refineAccepted (I (start)) n (a .cpp .now) (a .accepted-per-pass .now)) (l .counts-length)
+    ∙ accepted-is (I (start)) (a .max-passes) (a .cpe .now) (a .cpp .now) (a .accepted-per-pass .now) (a .inks .now) (ap (λ (q : Status). q .number) v ∙ at-if2 .if2 .left)
 
 pub refine-spec : {M : Type 1} → statement M
 refine-spec =

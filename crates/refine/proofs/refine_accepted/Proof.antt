@@ -14,8 +14,14 @@ prepare-requires c κs = search needs
 
 refine-passes-requires : tie.Need-refine-passes-requires
 refine-passes-requires c κs =
-    let a = c .before .before .before .before .before .before .before .before .before .before .before .before .before .before .before .before .before .before .before .before .before .before .before .before .pre in
-    ready-as (I (c .before .before .before .before .before .before .before .before .before .before .before .before .before .before .before .before .before .before .before .before .before .before .before .before)) (c .before .before .before .before .before .before .before .before .before .before .before .before .before .before .before .before .before .before .before .before .before .before .before .before .args .t) _ (c .before .before .before .before .before .before .before .before .before .before .before .before .before .before .before .before .before .before .before .before .before .before .before .before .args .cpp .now) _ _ _ (a .tiling) (c .before .before .before .before .before .before .before .before .before .before .before .prepare .ensures) (a .passes) (a .cpp-length)
+    let earlier = c .before .before .before .before .before in
+    let earlier-2 = earlier .before .before .before .before .before in
+    let at-prepare = earlier-2 .before in
+    let earlier-3 = at-prepare .before .before .before .before .before in
+    let earlier-4 = earlier-3 .before .before .before .before .before in
+    let start = earlier-4 .before .before .before in
+    let a = start .pre in
+    ready-as (I (start)) (start .args .t) _ (start .args .cpp .now) _ _ _ (a .tiling) (at-prepare .prepare .ensures) (a .passes) (a .cpp-length)
 
 same-length : tie.Need-same-length
 same-length c = search needs
@@ -33,7 +39,16 @@ same-length-5 : tie.Need-same-length-5
 same-length-5 c = search needs
 
 returns : tie.Need-returns
-returns c = ends-as (I (c .before .before .before .before .before .before .before .before .before .before .before .before .before .before .before .before .before .before .before .before .before .before .before .before .before .before .before .before .before .before .before)) (c .before .before .before .before .before .before .before .before .before .before .before .before .before .before .before .before .before .before .before .before .before .before .before .before .before .before .before .before .before .before .before .args .t) _ (c .before .before .before .before .before .before .before .before .before .before .before .before .before .before .before .before .before .before .before .before .before .before .before .before .before .before .before .before .before .before .before .args .cpp .now) _ _ _ (c .before .before .before .before .before .before .before .before .before .before .before .before .before .before .before .before .before .before .before .before .before .before .before .before .before .before .before .before .before .before .before .pre .tiling) (c .before .before .before .before .before .before .before .before .before .before .before .before .before .before .before .before .before .before .prepare .ensures) (c .before .before .before .before .before .before .before .before .before .before .before .before .before .before .before .before .before .before .before .before .before .before .before .before .before .before .before .before .before .before .before .args .accepted-per-pass .now) _ _ _ _ (c .before .before .before .before .before .before .refine-passes .ensures)
+returns c =
+    let earlier = c .before .before .before .before .before in
+    let at-refine-passes = earlier .before in
+    let earlier-2 = at-refine-passes .before .before .before .before .before in
+    let earlier-3 = earlier-2 .before .before .before .before .before in
+    let at-prepare = earlier-3 .before .before in
+    let earlier-4 = at-prepare .before .before .before .before .before in
+    let earlier-5 = earlier-4 .before .before .before .before .before in
+    let start = earlier-5 .before .before .before in
+    ends-as (I (start)) (start .args .t) _ (start .args .cpp .now) _ _ _ (start .pre .tiling) (at-prepare .prepare .ensures) (start .args .accepted-per-pass .now) _ _ _ _ (at-refine-passes .refine-passes .ensures)
 
 pub refine-accepted-spec : {M : Type 1} → statement M
 refine-accepted-spec =

@@ -31,7 +31,10 @@ inside : (s : tie.Start) → Inside (s .args .tab .w) (s .args .x) (s .args .y)
 inside s = held-inside (s .args .g .tiling) (s .args .tab .w) (s .args .x) (s .args .y) (s .pre .1 .0)
 
 abbrev entry : tie.After-t → tie.Start
-entry c = c .before .before .before .before .before .before .before
+entry c =
+    let earlier-2 = c .before .before .before .before .before in
+    let earlier = earlier-2 .before .before in
+    earlier
 
 abbrev start : tie.After-index-at → tie.Start
 start c = entry (c .before)

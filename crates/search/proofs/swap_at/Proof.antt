@@ -8,7 +8,10 @@ use Rattle.search.proofs.swap_at.Statement.{statement}
 use Rattle.search.proofs.swap_at.Tie as tie
 
 abbrev start : tie.Else1 → tie.Start
-start c = c .before .before .before .before .before .before
+start c =
+    let earlier-2 = c .before .before .before .before .before in
+    let earlier = earlier-2 .before in
+    earlier
 
 shared-slice-read-kn : tie.Need-shared-slice-read-kn
 shared-slice-read-kn c = search needs

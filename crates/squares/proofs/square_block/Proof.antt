@@ -14,7 +14,10 @@ use Rattle.squares.proofs.square_block.Tie as tie
 
 -- where the function starts, and after the columns are counted, the block is zeros, and its sums are made
 abbrev start : tie.After-column-count → tie.Start
-start c = c .before .before .before .before .before .before .before .before .before
+start c =
+    let earlier-2 = c .before .before .before .before .before in
+    let earlier = earlier-2 .before .before .before .before in
+    earlier
 
 abbrev counted : tie.After-fill-zero → tie.After-column-count
 counted c = c .before .before .before
@@ -23,7 +26,10 @@ abbrev zeros : tie.After-correlate-block → tie.After-fill-zero
 zeros c = c .before .before .before .before .before
 
 abbrev made : tie.After-square-lines → tie.After-correlate-block
-made c = c .before .before .before .before .before .before .before
+made c =
+    let earlier-2 = c .before .before .before .before .before in
+    let earlier = earlier-2 .before .before in
+    earlier
 
 abbrev image : tie.Start → Scene
 image s = scene (s .args .pixels .now) (s .args .indices .now) [] (s .args .inks .now)
@@ -57,7 +63,8 @@ correlate-block-requires c κs =
 
 square-lines-requires : tie.Need-square-lines-requires
 square-lines-requires c κs =
-    let m = c .before .before .before .before .before .before in
+    let earlier = c .before .before .before .before .before in
+    let m = earlier .before in
     let z = zeros m in
     let s = start (counted z) in
     let f = s .pre .1 in

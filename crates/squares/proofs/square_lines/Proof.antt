@@ -71,7 +71,8 @@ loop-less c = search needs
 
 loop-again : tie.Need-loop-again Inv-loop μ-loop
 loop-again c =
-    let s = c .before .before .before .before .before .before .before in
+    let earlier = c .before .before .before .before .before in
+    let s = earlier .before .before in
     let l = c .before .before .before .before .loop in
     let h = l .inv in
     let in-sums : l .i < length (s .args .sums .now) = omega (arith, c .before .before .before .loop-test .taken, h .1) in

@@ -37,7 +37,11 @@ same-length-2 c = search needs
 
 returns-2 : tie.Need-returns-2
 unfolding addAt
-returns-2 c = rw (c .before .before .before .before .before .before .before .before .before .before .enum-told2 .given .1, ← c .before .before .before .before .before .before .before .grow-by2 .ensures) (c .before .before .grow-by3 .ensures)
+returns-2 c =
+    let earlier = c .before .before .before .before .before in
+    let at-grow-by2 = earlier .before .before in
+    let at-enum-told2 = at-grow-by2 .before .before .before in
+    rw (at-enum-told2 .enum-told2 .given .1, ← at-grow-by2 .grow-by2 .ensures) (c .before .before .grow-by3 .ensures)
 
 pub add-at-spec : {M : Type 1} → statement M
 add-at-spec =

@@ -15,14 +15,21 @@ chroma-kernel-requires : tie.Need-chroma-kernel-requires
 chroma-kernel-requires c κs = search needs
 
 sweep-requires-2 : tie.Need-sweep-requires-2
-sweep-requires-2 c κs = rw (c .chroma-kernel .ensures) (c .before .before .before .before .before .before .before .before .before .pre .1 .0, (c .before .before .before .before .before .before .before .before .before .pre .1 .1 .0, c .before .before .before .before .sweep .kept .0 ∙ c .before .before .before .before .before .before .before .before .before .pre .1 .1 .1))
+sweep-requires-2 c κs =
+    let earlier = c .before .before .before .before .before in
+    let start = earlier .before .before .before .before in
+    rw (c .chroma-kernel .ensures) (start .pre .1 .0, (start .pre .1 .1 .0, c .before .before .before .before .sweep .kept .0 ∙ start .pre .1 .1 .1))
 
 same-length : tie.Need-same-length
 same-length c = search needs
 
 returns : tie.Need-returns
 unfolding addKernels
-returns c = rw (← c .before .before .before .before .before .before .before .before .lum-kernel .ensures, ← c .before .before .before .chroma-kernel .ensures, ← c .before .before .before .before .before .before .before .sweep .ensures) (c .before .before .sweep2 .ensures)
+returns c =
+    let earlier = c .before .before .before .before .before in
+    let at-sweep = earlier .before .before in
+    let at-lum-kernel = at-sweep .before in
+    rw (← at-lum-kernel .lum-kernel .ensures, ← c .before .before .before .chroma-kernel .ensures, ← at-sweep .sweep .ensures) (c .before .before .sweep2 .ensures)
 
 pub add-kernels-spec : {M : Type 1} → statement M
 add-kernels-spec =

@@ -49,7 +49,10 @@ loop-less : tie.Need-loop-less Inv-loop μ-loop
 loop-less c = search needs
 
 loop-again : tie.Need-loop-again Inv-loop μ-loop
-loop-again c = (search needs, search needs, rw (more, ← c .before .before .before .before .before .before .loop .inv .2) (c .before .before .add-at .ensures))
+loop-again c =
+    let earlier = c .before .before .before .before .before in
+    let turn = earlier .before in
+    (search needs, search needs, rw (more, ← turn .loop .inv .2) (c .before .before .add-at .ensures))
 
 same-length : tie.Need-same-length Inv-loop μ-loop
 same-length c = search needs

@@ -28,17 +28,22 @@ kernel-place-requires : tie.Need-kernel-place-requires
 kernel-place-requires c κs = search needs
 
 abbrev S : tie.After-kernel-place → tie.Start
-S c = c .before .before .before .before .before .before .before .before
+S c =
+    let earlier-2 = c .before .before .before .before .before in
+    let earlier = earlier-2 .before .before .before in
+    earlier
 
 returns : tie.Need-returns
 returns c =
+    let earlier = c .before .before .before .before .before in
+    let at-place = earlier .before .before in
     let a = S c .args in
     let p = S c .pre .1 .0 in
     let few = S c .pre .0 .0 in
     let y = S c .pre .1 .1 in
     let cpe = cpe-end-le (a .k) (a .w) (a .m) (a .c) (a .y) p few (y .0) (y .1) in
     let cpp = cpp-end-le (a .k) (a .w) (a .m) (a .c) (a .y) p few (y .0) (y .1) in
-    rw (c .before .before .before .before .before .before .before .place .ensures, c .kernel-place .ensures) (record {
+    rw (at-place .place .ensures, c .kernel-place .ensures) (record {
       at-is = refl;
       pixels-are = refl;
       from-is = refl;

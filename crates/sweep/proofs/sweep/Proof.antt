@@ -17,7 +17,9 @@ same-length c = search needs
 
 returns : tie.Need-returns
 returns c =
-    let a = c .before .before .before .before .before .before .before .args in
+    let earlier = c .before .before .before .before .before in
+    let start = earlier .before .before in
+    let a = start .args in
     rw (c .before .before .sweep-rows .ensures, c .before .before .before .footprint .ensures) (whole-is (a .channels) (a .cpp .now) (a .k) (a .w) (a .m) (a .cpe .now))
 
 pub sweep-spec : {M : Type 1} → statement M

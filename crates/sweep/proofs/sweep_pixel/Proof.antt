@@ -24,8 +24,9 @@ same-length c = search needs
 
 returns : tie.Need-returns
 returns c =
-    let s = c .before .before .before .before .before .before .before .before .before .before in
-    let o = c .before .before .before .before .before .before .before in
+    let earlier = c .before .before .before .before .before in
+    let o = earlier .before .before in
+    let s = o .before .before .before in
     let a = s .args in
     rw (c .before .before .add-at .ensures)
     (row-one (a .channels) (a .cpp .now) (a .k) (a .w) (a .m) (a .c) (a .y) (s .pre .1 .1 .0) (o .part-at .result) (o .part-at .ensures) (a .cpe .now) (omega (arith, c .before .before .before .before .before .if1 .taken, o .part-at .ensures .pixels-are, s .pre .1 .1 .1)))

@@ -49,8 +49,9 @@ same-length c = search needs
 
 returns : tie.Need-returns
 returns c =
-    let s = c .before .before .before .before .before .before .before .before .before .before in
-    let o = c .before .before .before .before .before .before .before in
+    let earlier = c .before .before .before .before .before in
+    let o = earlier .before .before in
+    let s = o .before .before .before in
     let a = s .args in
     sweep-row-is (a .channels) (a .cpp .now) (a .k) (a .w) (a .m) (a .c) (a .y) (s .pre .1 .1 .0) (o .part-at .result) (o .part-at .ensures)
     (a .cpe .now) (s .pre .1 .0) (s .pre .0 .room) (c .before .before .add-row .last .0) (c .before .before .add-row .ensures)

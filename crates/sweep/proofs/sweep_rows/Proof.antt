@@ -27,7 +27,9 @@ sweep-row-requires c κs =
 
 add-y : tie.Need-add-y Inv-loop μ-loop
 add-y c =
-    let p = c .before .before .before .before .before .before .before .before .pre .1 .1 in
+    let earlier = c .before .before .before .before .before in
+    let start = earlier .before .before .before in
+    let p = start .pre .1 .1 in
     omega (arith, c .before .before .before .before .loop-test .taken, p .bottom, p .bottom-limit)
 
 loop-less : tie.Need-loop-less Inv-loop μ-loop

@@ -30,10 +30,16 @@ valid s e z = take-passes _ _ _ _ _ .0 (take-answers (s .args .r) (s .args .tile
 -- ---- the places that the proofs read: all tests passed, the tests made, and the start
 
 abbrev passed : tie.After-state-byte → tie.Else1
-passed c = c .before .before .before .before .before .before .before .before .before
+passed c =
+    let earlier-2 = c .before .before .before .before .before in
+    let earlier = earlier-2 .before .before .before .before in
+    earlier
 
 abbrev start : tie.After-check-take → tie.Start
-start c = c .before .before .before .before .before .before .before .before .before
+start c =
+    let earlier-2 = c .before .before .before .before .before in
+    let earlier = earlier-2 .before .before .before .before in
+    earlier
 
 found : (k : tie.Else1) → ValidTake (start (k .before .before) .args .r) (start (k .before .before) .args .tile) (image (start (k .before .before))) (start (k .before .before) .args .tile-states .now) (copies (start (k .before .before)))
 found k = valid (start (k .before .before)) (k .before .before .check-take .ensures) (k .if1 .left)

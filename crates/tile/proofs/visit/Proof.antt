@@ -9,7 +9,10 @@ use Rattle.tile.proofs.visit.Statement.{statement}
 use Rattle.tile.proofs.visit.Tie as tie
 
 abbrev entry : tie.After-t → tie.Start
-entry c = c .before .before .before .before .before .before
+entry c =
+    let earlier-2 = c .before .before .before .before .before in
+    let earlier = earlier-2 .before in
+    earlier
 
 abbrev pinned : tie.After-evaluate → tie.After-is-pinned
 pinned c = c .before .before .before .before

@@ -28,15 +28,22 @@ smaller-requires c κs = search needs
 
 add-smaller-2 : tie.Need-add-smaller-2
 add-smaller-2 c =
-    let p = c .before .before .before .before .before .before .before .pre in
-    rw (c .before .before .before .before .before .tile-rect .ensures, c .before .before .before .before .before .before .margin .ensures) (omega (arith, tile-limit _ (p .0) _ (p .1) .3, sizes _ (p .0) .margin-limit))
+    let earlier = c .before .before .before .before .before in
+    let at-margin = earlier .before in
+    let start = at-margin .before in
+    let p = start .pre in
+    rw (c .before .before .before .before .before .tile-rect .ensures, at-margin .margin .ensures) (omega (arith, tile-limit _ (p .0) _ (p .1) .3, sizes _ (p .0) .margin-limit))
 
 smaller-requires-2 : tie.Need-smaller-requires-2
 smaller-requires-2 c κs = search needs
 
 returns : tie.Need-returns
 unfolding region
-returns c = rw (c .smaller2 .ensures, c .before .before .smaller .ensures, c .before .before .before .before .saturating-sub2 .ensures, c .before .before .before .before .before .saturating-sub .ensures, c .before .before .before .before .before .before .before .margin .ensures, c .before .before .before .before .before .before .tile-rect .ensures)
+returns c =
+    let earlier = c .before .before .before .before .before in
+    let at-tile-rect = earlier .before in
+    let at-margin = at-tile-rect .before in
+    rw (c .smaller2 .ensures, c .before .before .smaller .ensures, c .before .before .before .before .saturating-sub2 .ensures, c .before .before .before .before .before .saturating-sub .ensures, at-margin .margin .ensures, at-tile-rect .tile-rect .ensures)
 
 pub region-rect-spec : {M : Type 1} → statement M
 region-rect-spec =

@@ -19,47 +19,81 @@ abbrev μ-loop : tie.MeasureT-loop
 μ-loop cpe₀ indices₀ pinned inks cpp count t accepted-per-pass₀ error e₀ pass₀ cpe indices accepted-per-pass e pass = length accepted-per-pass₀ - pass
 
 loop-holds : tie.Need-loop-holds Inv-loop μ-loop
-loop-holds c = (omega arith, refl, rests-none _ _ (c .before .before .before .before .before .before .pre))
+loop-holds c =
+    let earlier = c .before .before .before .before .before in
+    let start = earlier .before in
+    (omega arith, refl, rests-none _ _ (start .pre))
 
 walk-pass-requires : tie.Need-walk-pass-requires Inv-loop μ-loop
-walk-pass-requires c κs = ready-image _ (c .before .before .before .before .before .before .before .before .before .before .pre) (c .before .before .before .loop .inv .2 .sound)
+walk-pass-requires c κs =
+    let earlier = c .before .before .before .before .before in
+    let start = earlier .before .before .before .before .before in
+    ready-image _ (start .pre) (c .before .before .before .loop .inv .2 .sound)
 
 store-count-requires : tie.Need-store-count-requires Inv-loop μ-loop
-store-count-requires c κs = (omega (arith, c .before .before .before .before .before .before .before .before .loop-test .taken, c .before .before .before .before .before .before .before .before .before .loop .inv .1), c .before .before .before .before .before .walk-pass .ensures .1)
+store-count-requires c κs =
+    let earlier = c .before .before .before .before .before in
+    let at-loop-test = earlier .before .before .before in
+    let turn = at-loop-test .before in
+    (omega (arith, at-loop-test .loop-test .taken, turn .loop .inv .1), c .before .before .before .before .before .walk-pass .ensures .1)
 
 add-pass : tie.Need-add-pass Inv-loop μ-loop
 add-pass c = search needs
 
 same-length : tie.Need-same-length Inv-loop μ-loop
-same-length c = c .before .before .before .before .before .before .before .before .before .walk-pass .kept .0 ∙ c .before .before .before .before .before .before .before .before .before .before .before .before .before .loop .inv .2 .sound .cpe
+same-length c =
+    let earlier = c .before .before .before .before .before in
+    let at-walk-pass = earlier .before .before .before .before in
+    let turn = at-walk-pass .before .before .before .before in
+    at-walk-pass .walk-pass .kept .0 ∙ turn .loop .inv .2 .sound .cpe
 
 same-length-2 : tie.Need-same-length-2 Inv-loop μ-loop
-same-length-2 c = c .before .before .before .before .before .before .before .before .before .walk-pass .kept .1 .0 ∙ c .before .before .before .before .before .before .before .before .before .before .before .before .before .loop .inv .2 .sound .room ∙ sym (c .before .before .before .before .before .before .before .before .before .before .before .before .before .before .before .before .before .before .before .before .pre .indices-room)
+same-length-2 c =
+    let earlier = c .before .before .before .before .before in
+    let at-walk-pass = earlier .before .before .before .before in
+    let turn = at-walk-pass .before .before .before .before in
+    let earlier-2 = turn .before .before .before .before .before in
+    let start = earlier-2 .before .before in
+    at-walk-pass .walk-pass .kept .1 .0 ∙ turn .loop .inv .2 .sound .room ∙ sym (start .pre .indices-room)
 
 same-length-3 : tie.Need-same-length-3 Inv-loop μ-loop
 same-length-3 c = search needs
 
 returns : tie.Need-returns Inv-loop μ-loop
-returns c = rw (c .before .before .before .store-count .ensures) (rests-ended (c .before .before .before .before .before .before .before .before .before .before .before .before .before .loop .inv .2) (omega (arith, c .before .before .before .before .before .before .before .before .before .before .before .before .loop-test .taken, c .before .before .before .before .before .before .before .before .before .before .before .before .before .loop .inv .1)) _ _ _ (c .before .before .before .before .before .before .before .before .before .walk-pass .ensures .0) (c .if1 .taken))
+returns c =
+    let earlier = c .before .before .before .before .before in
+    let at-walk-pass = earlier .before .before .before .before in
+    let at-loop-test = at-walk-pass .before .before .before in
+    let turn = at-loop-test .before in
+    rw (c .before .before .before .store-count .ensures) (rests-ended (turn .loop .inv .2) (omega (arith, at-loop-test .loop-test .taken, turn .loop .inv .1)) _ _ _ (at-walk-pass .walk-pass .ensures .0) (c .if1 .taken))
 
 loop-less : tie.Need-loop-less Inv-loop μ-loop
 loop-less c = search needs
 
 loop-again : tie.Need-loop-again Inv-loop μ-loop
 loop-again c =
-    let a = c .before .before .before .before .before .before .before .before .before .before .before .before .before .before .before .before .before .before .before .before .args in
+    let earlier = c .before .before .before .before .before in
+    let at-walk-pass = earlier .before .before .before .before in
+    let at-loop-test = at-walk-pass .before .before .before in
+    let turn = at-loop-test .before in
+    let earlier-2 = turn .before .before .before .before .before in
+    let start = earlier-2 .before .before in
+    let a = start .args in
     let S : Shared = shared (a .t) (a .count) (a .pinned .now) (a .inks .now) (a .cpp .now) in
-    let w = c .before .before .before .before .before .before .before .before .before .before .before .before .before .loop .inv .2 in
-    let h : c .before .before .before .before .before .before .before .before .before .before .before .before .before .loop .pass < length (a .accepted-per-pass .now) = omega (arith, c .before .before .before .before .before .before .before .before .before .before .before .before .loop-test .taken, c .before .before .before .before .before .before .before .before .before .before .before .before .before .loop .inv .1) in
-    let r : Refined = refined (c .before .before .before .before .before .before .before .before .before .before .before .before .before .loop .cpe) (c .before .before .before .before .before .before .before .before .before .before .before .before .before .loop .indices) (run0 (c .before .before .before .before .before .before .before .before .before .before .before .before .before .loop .e)) in
-    let s = subst (SoundImage S (a .indices .now) (length (a .cpe .now))) (sym (c .before .before .before .before .before .before .before .before .before .walk-pass .ensures .0)) (pass-sound S (a .indices .now) (length (a .cpe .now)) r (w .sound)) in
-    (omega (arith, h), search needs, rw (c .before .before .before .store-count .ensures) (rests-more w h _ _ _ (c .before .before .before .before .before .before .before .before .before .walk-pass .ensures .0) s (c .if1 .left)))
+    let w = turn .loop .inv .2 in
+    let h : turn .loop .pass < length (a .accepted-per-pass .now) = omega (arith, at-loop-test .loop-test .taken, turn .loop .inv .1) in
+    let r : Refined = refined (turn .loop .cpe) (turn .loop .indices) (run0 (turn .loop .e)) in
+    let s = subst (SoundImage S (a .indices .now) (length (a .cpe .now))) (sym (at-walk-pass .walk-pass .ensures .0)) (pass-sound S (a .indices .now) (length (a .cpe .now)) r (w .sound)) in
+    (omega (arith, h), search needs, rw (c .before .before .before .store-count .ensures) (rests-more w h _ _ _ (at-walk-pass .walk-pass .ensures .0) s (c .if1 .left)))
 
 same-length-4 : tie.Need-same-length-4 Inv-loop μ-loop
 same-length-4 c = c .before .loop .inv .2 .sound .cpe
 
 same-length-5 : tie.Need-same-length-5 Inv-loop μ-loop
-same-length-5 c = c .before .loop .inv .2 .sound .room ∙ sym (c .before .before .before .before .before .before .before .before .pre .indices-room)
+same-length-5 c =
+    let earlier = c .before .before .before .before .before in
+    let start = earlier .before .before .before in
+    c .before .loop .inv .2 .sound .room ∙ sym (start .pre .indices-room)
 
 same-length-6 : tie.Need-same-length-6 Inv-loop μ-loop
 same-length-6 c = search needs

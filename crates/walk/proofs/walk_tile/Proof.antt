@@ -18,15 +18,23 @@ tile-rect-requires c κs = search needs
 
 refine-tile-requires : tie.Need-refine-tile-requires
 refine-tile-requires c κs =
-    rw (c .before .before .before .image-rect .ensures, c .before .before .tile-rect .ensures) (c .before .before .before .before .before .before .before .before .before .pre .0, image-covers (c .before .before .before .before .before .before .before .before .before .args .t) (c .before .before .before .before .before .before .before .before .before .args .tile) (c .before .before .before .before .before .before .before .before .before .pre .1 .0))
+    let earlier = c .before .before .before .before .before in
+    let start = earlier .before .before .before .before in
+    rw (c .before .before .before .image-rect .ensures, c .before .before .tile-rect .ensures) (start .pre .0, image-covers (start .args .t) (start .args .tile) (start .pre .1 .0))
 
 add-t18 : tie.Need-add-t18
 add-t18 c =
-    let a = c .before .before .before .before .before .before .before .before .before .before .before .before .before .before .before .before .before .before .args in
+    let earlier = c .before .before .before .before .before in
+    let at-refine-tile = earlier .before .before .before in
+    let at-tile-rect = at-refine-tile .before .before .before in
+    let at-image-rect = at-tile-rect .before in
+    let earlier-2 = at-image-rect .before .before .before .before .before in
+    let start = earlier-2 .before in
+    let a = start .args in
     let S : Shared = shared (a .t) (a .count) (a .pinned .now) (a .inks .now) (a .cpp .now) in
-    let e = rw (c .before .before .before .before .before .before .before .before .before .before .before .before .image-rect .ensures, c .before .before .before .before .before .before .before .before .before .before .before .tile-rect .ensures) at (c .before .before .before .before .before .before .before .before .refine-tile .ensures) in
-    let n : c .before .before .before .before .before .before .before .before .refine-tile .result .accepted ≡ refineTile S (image (a .t)) (tile (a .t) (a .tile)) (state (a .cpe .now) (a .indices .now) noProgress) .progress .accepted = ap (λ (s : State). s .progress .accepted) e in
-    omega (arith, n, tile-few S (image (a .t)) (a .tile) (state (a .cpe .now) (a .indices .now) noProgress) (c .before .before .before .before .before .before .before .before .before .before .before .before .before .before .before .before .before .before .pre .0 .limits), c .before .before .before .before .before .before .before .before .before .before .before .before .before .before .before .before .before .before .pre .1 .1)
+    let e = rw (at-image-rect .image-rect .ensures, at-tile-rect .tile-rect .ensures) at (at-refine-tile .refine-tile .ensures) in
+    let n : at-refine-tile .refine-tile .result .accepted ≡ refineTile S (image (a .t)) (tile (a .t) (a .tile)) (state (a .cpe .now) (a .indices .now) noProgress) .progress .accepted = ap (λ (s : State). s .progress .accepted) e in
+    omega (arith, n, tile-few S (image (a .t)) (a .tile) (state (a .cpe .now) (a .indices .now) noProgress) (start .pre .0 .limits), start .pre .1 .1)
 
 same-length : tie.Need-same-length
 same-length c = search needs
@@ -36,7 +44,14 @@ same-length-2 c = search needs
 
 returns : tie.Need-returns
 unfolding walkTile
-returns c = ap (joined (c .before .before .before .before .before .before .before .before .before .before .before .before .before .before .before .before .before .before .args .run)) (rw (c .before .before .before .before .before .before .before .before .before .before .before .before .image-rect .ensures, c .before .before .before .before .before .before .before .before .before .before .before .tile-rect .ensures) at (c .before .before .before .before .before .before .before .before .refine-tile .ensures))
+returns c =
+    let earlier = c .before .before .before .before .before in
+    let at-refine-tile = earlier .before .before .before in
+    let at-tile-rect = at-refine-tile .before .before .before in
+    let at-image-rect = at-tile-rect .before in
+    let earlier-2 = at-image-rect .before .before .before .before .before in
+    let start = earlier-2 .before in
+    ap (joined (start .args .run)) (rw (at-image-rect .image-rect .ensures, at-tile-rect .tile-rect .ensures) at (at-refine-tile .refine-tile .ensures))
 
 pub walk-tile-spec : {M : Type 1} → statement M
 walk-tile-spec =

@@ -22,14 +22,21 @@ same-length-2 c = search needs
 returns : tie.Need-returns
 unfolding walkTry
 returns c =
-    let a = c .before .before .before .before .before .before .before .before .before .before .before .before .before .before .args in
-    let due : inPhase (a .t) (a .phase) (a .tile) ≡ true = sym (c .before .before .before .before .before .before .before .before .is-in-phase .ensures) ∙ c .before .before .before .before .before .before .before .if1 .taken in
+    let earlier = c .before .before .before .before .before in
+    let at-if1 = earlier .before .before in
+    let at-is-in-phase = at-if1 .before in
+    let earlier-2 = at-is-in-phase .before .before .before .before .before in
+    let start = earlier-2 .before in
+    let a = start .args in
+    let due : inPhase (a .t) (a .phase) (a .tile) ≡ true = sym (at-is-in-phase .is-in-phase .ensures) ∙ at-if1 .if1 .taken in
     rw due (c .before .before .before .before .walk-tile .ensures)
 
 returns-2 : tie.Need-returns-2
 unfolding walkTry
 returns-2 c =
-    let a = c .before .before .before .before .before .before .before .args in
+    let earlier = c .before .before .before .before .before in
+    let start = earlier .before .before in
+    let a = start .args in
     let other : inPhase (a .t) (a .phase) (a .tile) ≡ false = sym (c .before .is-in-phase .ensures) ∙ c .if1 .left in
     rw other
 

@@ -31,8 +31,10 @@ returns c = by-steps _ (omega arith) (rw (← first (c .before .before)) (stays 
 shared-slice-read-next : tie.Need-shared-slice-read-next
 unfolding Numbered Passes
 shared-slice-read-next c =
+    let earlier = c .before .before .before .before .before in
+    let start = earlier .before in
     let p = zero-from accepted (_ ∷ []) (omega arith) (ap (λ (u : Status). u .number) (sym (first (c .before .before .before))) ∙ c .before .if1 .left) in
-    omega (arith, length-iff (length (c .before .before .before .before .before .before .args .words .now)) runLength .0 (p .1 .0))
+    omega (arith, length-iff (length (start .args .words .now)) runLength .0 (p .1 .0))
 
 next-requires-2 : tie.Need-next-requires-2
 next-requires-2 c κs = search needs

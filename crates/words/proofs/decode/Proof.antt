@@ -48,7 +48,10 @@ shared-slice-read-t25 c = search needs
 
 returns : tie.Need-returns
 unfolding decode
-returns c = rw (c .before .to-float2 .ensures, c .before .before .before .before .before .before .to-float .ensures)
+returns c =
+    let earlier = c .before .before .before .before .before in
+    let at-to-float = earlier .before in
+    rw (c .before .to-float2 .ensures, at-to-float .to-float .ensures)
 
 pub decode-spec : {M : Type 1} → statement M
 decode-spec =

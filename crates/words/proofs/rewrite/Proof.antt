@@ -24,7 +24,10 @@ same-length c = search needs
 
 returns : tie.Need-returns
 unfolding rewritten
-returns c = rw (c .before .before .write-words .ensures, c .before .before .before .before .word-over2 .ensures, c .before .before .before .before .before .before .word-over .ensures)
+returns c =
+    let earlier = c .before .before .before .before .before in
+    let at-word-over = earlier .before in
+    rw (c .before .before .write-words .ensures, c .before .before .before .before .word-over2 .ensures, at-word-over .word-over .ensures)
 
 pub rewrite-spec : {M : Type 1} → statement M
 rewrite-spec =

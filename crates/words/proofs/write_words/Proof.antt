@@ -25,7 +25,10 @@ flag false = refl
 
 returns : tie.Need-returns
 unfolding wordsWith
-returns c = rw (← flag (c .before .before .before .before .before .before .before .before .before .args .r .finished)) (c .before .before .copy-words .ensures)
+returns c =
+    let earlier = c .before .before .before .before .before in
+    let start = earlier .before .before .before .before in
+    rw (← flag (start .args .r .finished)) (c .before .before .copy-words .ensures)
 
 pub write-words-spec : {M : Type 1} → statement M
 write-words-spec =

@@ -19,7 +19,10 @@ next-requires c κs = search needs
 
 mul-is-mask : tie.Need-mul-is-mask
 unfolding pixelsOf
-mul-is-mask c = omega (arith, few-pixels _ (c .before .before .before .before .before .before .before .pre (c .before .before .before .before .before .if1 .left)))
+mul-is-mask c =
+    let earlier = c .before .before .before .before .before in
+    let start = earlier .before .before in
+    omega (arith, few-pixels _ (start .pre (c .before .before .before .before .before .if1 .left)))
 
 is-mask-requires : tie.Need-is-mask-requires
 is-mask-requires c κs = search needs

@@ -38,21 +38,35 @@ same-length-2 c = search needs
 
 returns : tie.Need-returns
 returns c =
-    let s = c .before .before .before .before .before .before .before .before .before .before .before in
+    let earlier = c .before .before .before .before .before in
+    let earlier-2 = earlier .before .before .before .before .before in
+    let s = earlier-2 .before in
     rw (c .refused .ensures) (work-answers (s .args .r) (s .args .tile) (s .args .pinned .now) (s .args .cpp .now) (copies s) (s .args .inks .now) .kept _ (c .before .before .before .check-work .ensures) (c .before .if1 .taken))
 
 region-rect-requires : tie.Need-region-rect-requires
-region-rect-requires c κs = let v = valid (c .before .before .before .before .before .before .before .before .before .before .before .before) (c .before .before .before .before .check-work .ensures) (c .before .before .if1 .left) in (limits-of (c .before .before .before .before .before .before .before .before .before .before .before .before .args .r) (v .valid), v .tile-has)
+region-rect-requires c κs =
+    let earlier = c .before .before .before .before .before in
+    let earlier-2 = earlier .before .before .before .before .before in
+    let start = earlier-2 .before .before in
+    let v = valid (start) (c .before .before .before .before .check-work .ensures) (c .before .before .if1 .left) in (limits-of (start .args .r) (v .valid), v .tile-has)
 
 tile-rect-requires : tie.Need-tile-rect-requires
-tile-rect-requires c κs = let v = valid (c .before .before .before .before .before .before .before .before .before .before .before .before .before) (c .before .before .before .before .before .check-work .ensures) (c .before .before .before .if1 .left) in (limits-of (c .before .before .before .before .before .before .before .before .before .before .before .before .before .args .r) (v .valid), v .tile-has)
+tile-rect-requires c κs =
+    let earlier = c .before .before .before .before .before in
+    let earlier-2 = earlier .before .before .before .before .before in
+    let start = earlier-2 .before .before .before in
+    let v = valid (start) (c .before .before .before .before .before .check-work .ensures) (c .before .before .before .if1 .left) in (limits-of (start .args .r) (v .valid), v .tile-has)
 
 refine-tile-requires : tie.Need-refine-tile-requires
 unfolding pixelsOf
 refine-tile-requires c κs =
-    let s = c .before .before .before .before .before .before .before .before .before .before .before .before .before .before .before .before in
+    let earlier = c .before .before .before .before .before in
+    let at-if1 = earlier .before in
+    let at-check-work = at-if1 .before .before in
+    let earlier-2 = at-check-work .before .before .before .before .before in
+    let s = earlier-2 .before .before .before in
     let T = s .args .r .plan .tiling in
-    let v = valid s (c .before .before .before .before .before .before .before .before .check-work .ensures) (c .before .before .before .before .before .before .if1 .left) in
+    let v = valid s (at-check-work .check-work .ensures) (at-if1 .if1 .left) in
     rw (c .before .before .before .region-rect .ensures, c .before .before .tile-rect .ensures) (
       record {
         limits = limits-of (s .args .r) (v .valid);
@@ -79,13 +93,19 @@ same-length-4 c = search needs
 returns-2 : tie.Need-returns-2
 unfolding refinedCopy jobShared
 returns-2 c =
-    let s = c .before .before .before .before .before .before .before .before .before .before .before .before .before .before .before .before .before .before .before .before .before in
+    let earlier = c .before .before .before .before .before in
+    let at-tile-rect = earlier .before .before in
+    let at-region-rect = at-tile-rect .before in
+    let at-if1 = at-region-rect .before .before .before in
+    let at-check-work = at-if1 .before .before in
+    let earlier-2 = at-check-work .before .before .before .before .before in
+    let s = earlier-2 .before .before .before in
     let a = s .args in
     let S = jobShared (a .r) (a .pinned .now) (a .inks .now) (a .cpp .now) in
-    ap (worked (c .before .before .before .before .before .before .before .before .before .before .before .before .before .check-work .result))
+    ap (worked (at-check-work .check-work .result))
     (c .before .before .before .before .refine-tile .ensures
-    ∙ ap₂ (λ W Q. refineTile S W Q (state (a .copy-cpe .now) (a .copy-indices .now) noProgress)) (c .before .before .before .before .before .before .before .before .region-rect .ensures) (c .before .before .before .before .before .before .before .tile-rect .ensures))
-    ∙ work-answers (a .r) (a .tile) (a .pinned .now) (a .cpp .now) (copies s) (a .inks .now) .made _ (c .before .before .before .before .before .before .before .before .before .before .before .before .before .check-work .ensures) (c .before .before .before .before .before .before .before .before .before .before .before .if1 .left)
+    ∙ ap₂ (λ W Q. refineTile S W Q (state (a .copy-cpe .now) (a .copy-indices .now) noProgress)) (at-region-rect .region-rect .ensures) (at-tile-rect .tile-rect .ensures))
+    ∙ work-answers (a .r) (a .tile) (a .pinned .now) (a .cpp .now) (copies s) (a .inks .now) .made _ (at-check-work .check-work .ensures) (at-if1 .if1 .left)
 
 pub work-spec : {M : Type 1} → statement M
 work-spec =

@@ -17,7 +17,10 @@ abbrev run : tie.Else1 → tie.After-read
 run c = c .before .before .before
 
 abbrev start : tie.After-read → tie.Start
-start c = c .before .before .before .before .before .before .before
+start c =
+    let earlier-2 = c .before .before .before .before .before in
+    let earlier = earlier-2 .before .before in
+    earlier
 
 read-requires : tie.Need-read-requires
 read-requires c κs = search needs
