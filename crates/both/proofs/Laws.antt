@@ -7,16 +7,16 @@ use mathlib.Core.Logic.{_⊎_, inl, inr, ⊎-elim}
 use mathlib.Core.Bool.{Bool, true, false, not, _&&_}
 use mathlib.Core.List.{List}
 use lib.ListN.{length, getD, drop, length-drop}
-use lib.Seq.{length-take-le}
+use lib.Seq.{getD-take, getD-drop, length-take-le}
 use lib.Ieee.{Float, nan}
 use borrow.Author.Tests.{lt-ltb, le-ltb, not-true}
 use borrow.Rule.Slice.PartMut.{midOf, putMid}
 use Rattle.base.specs.declared.Rect.{Rect}
-use Rattle.base.specs.Loop.{fromTo}
+use Rattle.base.specs.Loop.{upTo, fromTo}
 use Rattle.base.specs.Grid.{area, place, Inside, Within, cell}
-use Rattle.base.specs.Limits.{cppChroma}
+use Rattle.base.specs.Limits.{maxPixels, maxRadius, cppChroma, cppLength}
 use Rattle.base.proofs.Bounds.{lt-or-ge}
-use Rattle.base.proofs.LoopLaws.{fromTo-keeps}
+use Rattle.base.proofs.LoopLaws.{fromTo-keeps, upTo-same}
 use Rattle.base.proofs.GridLaws.{ext-cell}
 use Rattle.color.specs.declared.YyCxCz.{YyCxCz}
 use Rattle.cpp.specs.declared.Kernel2D.{Kernel2D}
@@ -25,13 +25,14 @@ use Rattle.sweep.specs.declared.Channels.the-variants.{Luminance, Chrominance}
 use Rattle.sweep.specs.declared.Source.{Source}
 use Rattle.sweep.specs.declared.Span.{Span}
 use Rattle.sweep.specs.Sweep.{Centred, first, past, footprintOf, addAt, sweepPixel, sweepOf}
-use Rattle.sweep.specs.Part.{Part, RowSpan, pixelOf, rowOf, partOf}
-use Rattle.sweep.proofs.Laws.{Axis, axis, whole-part, length-addAt, Local, addAt-part, row-is, row-turn, long-row}
+use Rattle.sweep.specs.Part.{Part, RowSpan, Fits, Steps, pixelOf, rowOf, partOf}
+use Rattle.sweep.proofs.Laws.{Axis, axis, whole-part, length-addAt, Local, addAt-part, row-is, pixel-is, span-is, below-is}
 use Rattle.sweep.proofs.Point.{has, has-is, has-yes, has-not, no-true, on, on-idle, Sized, Acts, Rows, acts-then, rows-then, row-of, rows-at, acts, there, sweep-at, sized-sweep, footprint-within}
 use Rattle.both.specs.declared.Range.{Range}
 use Rattle.both.specs.declared.Shared.{Shared}
+use Rattle.both.specs.declared.Line.{Line}
 use Rattle.both.specs.declared.Rest.{Rest}
-use Rattle.both.specs.Both.{addPairs, pairRow, shareRow, shareOf, loneOf, commonOf, aloneOf, Shares, Twins}
+use Rattle.both.specs.Both.{addPairs, pairRow, shareRow, shareOf, pairSpan, lineOf, lineBelow, loneOf, commonOf, aloneOf, Shares, Lined, LineFits, Twins}
 
 -- ---- along one axis: two ranges of neighbours
 
@@ -264,28 +265,88 @@ lent b n l h =
     let e : b + n - b ≡ n = omega arith in
     rw e (length-take-le n (drop b l) (omega (arith, length-drop b l)))
 
-module _ (h : Channels) (cpp : List Float) (k : Kernel2D) (W : Rect) (m n : Source) (C : Rect) (y : ℕ) (p : Part k W m C) (q : Part k W n C)
-    (s o : Span) (r : RowSpan k W m C y s) (e : RowSpan k W n C y o) where
+-- value i of a part lent by its ends
+lent-at : (b n i : ℕ) (l : List Float) → i < n → getD (midOf b (b + n - b) l) i nan ≡ getD l (b + i) nan
+lent-at b n i l h =
+    let e : b + n - b ≡ n = omega arith in
+    rw e (getD-take n (drop b l) i nan h ∙ getD-drop b l i nan)
+
+module _ (h : Channels) (a b : YyCxCz) (cpp : List Float) (s o : Span) where
   abbrev one : List Float
   one = midOf (s .from) (s .from + s .pixels - s .from) cpp
 
   abbrev two : List Float
   two = midOf (o .from) (o .from + s .pixels - o .from) cpp
 
-  turn : (i : ℕ) → i < s .pixels → (t : List Float) →
-      pixelOf h cpp k W n y (C .x0 + i) (pixelOf h cpp k W m y (C .x0 + i) t) ≡ addAt h (n .a) (getD two i nan) (s .at + 3 * i) (addAt h (m .a) (getD one i nan) (s .at + 3 * i) t)
-  turn i l t =
-      row-turn h cpp k W n C y q o e (s .pixels) i l _
-      ∙ ap (λ (j : ℕ). addAt h (n .a) (getD two i nan) (j + 3 * i) (pixelOf h cpp k W m y (C .x0 + i) t)) (e .at-is ∙ sym (r .at-is))
-      ∙ ap (λ (g : List Float). addAt h (n .a) (getD two i nan) (s .at + 3 * i) g) (row-turn h cpp k W m C y p s r (s .pixels) i l t)
+  -- what is done to pixel i of the span
+  abbrev pixel : ℕ → List Float → List Float
+  pixel i t = addAt h b (getD cpp (o .from + i) nan) (s .at + 3 * i) (addAt h a (getD cpp (s .from + i) nan) (s .at + 3 * i) t)
 
-  pub pair-row-is : (f : List Float) → length f ≡ 3 * area W → k .from + cppChroma ≤ length cpp → (last : List Float) →
-      last ≡ addPairs h (m .a) (n .a) one two (length one) (midOf (s .at) (s .at + 3 * s .pixels - s .at) f) → putMid (s .at) (s .at + 3 * s .pixels - s .at) f last ≡ pairRow h cpp k W m n C y f
-  unfolding addPairs pairRow fromTo
-  pair-row-is f room store last z =
-      rw (z, long-row h cpp k W m C y p s r store, ← r .pixels-are)
-      (row-is (λ i j t. addAt h (n .a) (getD two i nan) j (addAt h (m .a) (getD one i nan) j t)) (pairs h (m .a) (n .a) one two)
-      (λ x g. pixelOf h cpp k W n y x (pixelOf h cpp k W m y x g)) (C .x0) (s .at) (s .pixels) f turn (omega (arith, r .cpe-end, room)))
+  from-first : (i : ℕ) (t : List Float) → pixel (0 + i) t ≡ pixel i t
+  from-first i t = let e : 0 + i ≡ i = omega arith in rw e
+
+  turn : (i : ℕ) → i < s .pixels → (t : List Float) → pixel (0 + i) t ≡ addAt h b (getD two i nan) (s .at + 3 * i) (addAt h a (getD one i nan) (s .at + 3 * i) t)
+  turn i l t = from-first i t ∙ rw (lent-at (s .from) (s .pixels) i cpp l, lent-at (o .from) (s .pixels) i cpp l)
+
+  pub pair-span-is : (f : List Float) → Fits (length f) (length cpp) s → (last : List Float) →
+      last ≡ addPairs h a b one two (length one) (midOf (s .at) (s .at + 3 * s .pixels - s .at) f) → putMid (s .at) (s .at + 3 * s .pixels - s .at) f last ≡ pairSpan h a b cpp s o f
+  unfolding addPairs pairSpan
+  pair-span-is f z last e =
+      rw (e, lent (s .from) (s .pixels) cpp (z .in-cpp))
+      (row-is (λ i j t. addAt h b (getD two i nan) j (addAt h a (getD one i nan) j t)) (pairs h a b one two) pixel 0 (s .at) (s .pixels) f turn (z .in-cpe)
+      ∙ upTo-same (s .pixels) (λ i. pixel (0 + i)) pixel f (λ i _ t. from-first i t))
+
+-- ---- row y of a swap where it stands
+
+pub steps : (k : Kernel2D) (W : Rect) (m : Source) (C : Rect) → k .radius ≤ maxRadius → Part k W m C → Steps k W
+steps k W m C few p = record { radius-limit = few; columns = omega (arith, p .left, p .columns, p .right); right-limit = p .right-limit }
+
+module _ (k : Kernel2D) (W : Rect) (m n : Source) (S : Shared) (y : ℕ) (l : Line) (p : Shares k W m n S) (r : Lined k W m n S y l) where
+  -- it lies in the window and in the kernel
+  pub line-fits : (cpe cpp : ℕ) → 3 * area W ≤ cpe → k .from + cppChroma ≤ cpp → LineFits cpe cpp l
+  line-fits cpe cpp room store = record {
+    common = record { in-cpe = omega (arith, r .by-one .cpe-end, room); in-cpp = omega (arith, r .by-one .cpp-end, store) };
+    other = record { in-cpe = omega (arith, r .by-two .cpe-end, room); in-cpp = omega (arith, r .by-two .cpp-end, store) };
+    one = record { in-cpe = omega (arith, r .one-alone .cpe-end, room); in-cpp = omega (arith, r .one-alone .cpp-end, store) };
+    two = record { in-cpe = omega (arith, r .two-alone .cpe-end, room); in-cpp = omega (arith, r .two-alone .cpp-end, store) };
+    same = r .by-two .pixels-are ∙ sym (r .by-one .pixels-are);
+    one-pixel = omega (arith, r .one-alone .pixels-are, p .one-column);
+    two-pixel = omega (arith, r .two-alone .pixels-are, p .two-column);
+  }
+
+  -- and in an image within the limits
+  pub line-low : LineFits (3 * maxPixels) cppLength l
+  line-low = record {
+    common = record { in-cpe = r .by-one .cpe-limit; in-cpp = r .by-one .cpp-limit };
+    other = record { in-cpe = r .by-two .cpe-limit; in-cpp = r .by-two .cpp-limit };
+    one = record { in-cpe = r .one-alone .cpe-limit; in-cpp = r .one-alone .cpp-limit };
+    two = record { in-cpe = r .two-alone .cpe-limit; in-cpp = r .two-alone .cpp-limit };
+    same = r .by-two .pixels-are ∙ sym (r .by-one .pixels-are);
+    one-pixel = omega (arith, r .one-alone .pixels-are, p .one-column);
+    two-pixel = omega (arith, r .two-alone .pixels-are, p .two-column);
+  }
+
+  -- what is added along it is the row
+  pub line-is : (h : Channels) (cpp f : List Float) → lineOf h (m .a) (n .a) cpp l f ≡ shareRow h cpp k W m n S y f
+  unfolding lineOf pairSpan shareRow pairRow fromTo
+  line-is h cpp f =
+      rw (span-is h cpp k W n (S .two) y (p .two-alone) (l .two) (r .two-alone), span-is h cpp k W m (S .one) y (p .one-alone) (l .one) (r .one-alone), r .by-one .pixels-are)
+      (ap (λ (g : List Float). rowOf h cpp k W n (S .two) y (rowOf h cpp k W m (S .one) y g)) (upTo-same (S .common .x1 - S .common .x0) _ _ f (λ i _ t. both-at h cpp i t)))
+    where
+      both-at : (h : Channels) (cpp : List Float) (i : ℕ) (t : List Float) →
+          addAt h (n .a) (getD cpp (l .other .from + i) nan) (l .common .at + 3 * i) (addAt h (m .a) (getD cpp (l .common .from + i) nan) (l .common .at + 3 * i) t)
+          ≡ pixelOf h cpp k W n y (S .common .x0 + i) (pixelOf h cpp k W m y (S .common .x0 + i) t)
+      both-at h cpp i t = sym (pixel-is h cpp k W n (S .common) y (p .by-two) (l .other) (r .by-two) i _
+          ∙ rw (r .by-two .at-is, ← r .by-one .at-is, pixel-is h cpp k W m (S .common) y (p .by-one) (l .common) (r .by-one) i t))
+
+  -- the row below
+  pub lined-below : k .radius ≤ maxRadius → k .from ≤ cppChroma → S .common .y0 ≤ y → y + 1 < S .common .y1 → Lined k W m n S (y + 1) (lineBelow k W l)
+  lined-below few store low high = record {
+    by-one = below-is k W m (S .common) y (p .by-one) few low (l .common) (r .by-one) store high;
+    by-two = below-is k W n (S .common) y (p .by-two) few low (l .other) (r .by-two) store high;
+    one-alone = below-is k W m (S .one) y (p .one-alone) few (omega (arith, p .one-top, low)) (l .one) (r .one-alone) store (omega (arith, p .one-bottom, high));
+    two-alone = below-is k W n (S .two) y (p .two-alone) few (omega (arith, p .two-top, low)) (l .two) (r .two-alone) store (omega (arith, p .two-bottom, high));
+  }
 
 -- ---- one value, by the column and the row of its pixel
 

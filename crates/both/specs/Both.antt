@@ -16,9 +16,11 @@ use Rattle.cpp.specs.declared.Kernel2D.{Kernel2D}
 use Rattle.sweep.specs.declared.Channels.{Channels}
 use Rattle.sweep.specs.declared.Source.{Source}
 use Rattle.sweep.specs.Sweep.{addAt}
-use Rattle.sweep.specs.Part.{Part, pixelOf, rowOf}
+use Rattle.sweep.specs.declared.Span.{Span}
+use Rattle.sweep.specs.Part.{Part, RowSpan, Fits, pixelOf, rowOf, spanOf, belowOf}
 use Rattle.both.specs.declared.Range.{Range}
 use Rattle.both.specs.declared.Shared.{Shared}
+use Rattle.both.specs.declared.Line.{Line}
 use Rattle.both.specs.declared.Rest.{Rest}
 
 -- the first n pixels of a row grow by a times a row of the kernel and b times another
@@ -36,6 +38,21 @@ module _ (h : Channels) (cpp : List Float) (k : Kernel2D) (W : Rect) (m n : Sour
 
   unfoldable pub shareOf : Shared → List Float → List Float
   shareOf S f = fromTo (S .common .y0) (S .common .y1) (shareRow S) f
+
+-- ---- the same by where it stands
+
+-- each pixel of the span s grows by a times the kernel's value there, then by b times its value along o
+unfoldable pub pairSpan : Channels → YyCxCz → YyCxCz → List Float → Span → Span → List Float → List Float
+pairSpan h a b cpp s o f = upTo (λ i g. addAt h b (getD cpp (o .from + i) nan) (s .at + 3 * i) (addAt h a (getD cpp (s .from + i) nan) (s .at + 3 * i) g)) (s .pixels) f
+
+unfoldable pub lineOf : Channels → YyCxCz → YyCxCz → List Float → Line → List Float → List Float
+lineOf h a b cpp l f = spanOf h b cpp (l .two) (spanOf h a cpp (l .one) (pairSpan h a b cpp (l .common) (l .other) f))
+
+-- a row further down
+abbrev pub lineBelow : Kernel2D → Rect → Line → Line
+lineBelow k W l = record { common = belowOf k W (l .common); other = belowOf k W (l .other); one = belowOf k W (l .one); two = belowOf k W (l .two) }
+
+-- ---- the parts
 
 -- along one axis, what lies in [f, p) and not in [g, q): one of the two sides, as neighbours are at most 1 apart
 unfoldable pub loneOf : ℕ → ℕ → ℕ → ℕ → Range
@@ -66,6 +83,23 @@ pub record Shares (k : Kernel2D) (W : Rect) (m n : Source) (S : Shared) : Type 0
   pub one-bottom : S .one .y1 ≡ S .common .y1
   pub two-top : S .two .y0 ≡ S .common .y0
   pub two-bottom : S .two .y1 ≡ S .common .y1
+
+-- l is where row y of a swap stands
+pub record Lined (k : Kernel2D) (W : Rect) (m n : Source) (S : Shared) (y : ℕ) (l : Line) : Type 0 where
+  pub by-one : RowSpan k W m (S .common) y (l .common)
+  pub by-two : RowSpan k W n (S .common) y (l .other)
+  pub one-alone : RowSpan k W m (S .one) y (l .one)
+  pub two-alone : RowSpan k W n (S .two) y (l .two)
+
+-- a row of a swap lies in so many values of `cpe` and of the kernel store
+pub record LineFits (cpe cpp : ℕ) (l : Line) : Type 0 where
+  pub common : Fits cpe cpp (l .common)
+  pub other : Fits cpe cpp (l .other)
+  pub one : Fits cpe cpp (l .one)
+  pub two : Fits cpe cpp (l .two)
+  pub same : l .other .pixels ≡ l .common .pixels
+  pub one-pixel : l .one .pixels ≤ 1
+  pub two-pixel : l .two .pixels ≤ 1
 
 -- two sources in a window of an image within the limits, at most 1 apart both ways
 pub record Twins (W : Rect) (m n : Source) : Type 0 where

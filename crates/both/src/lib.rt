@@ -5,15 +5,17 @@ use color::YyCxCz;
 use cpp::Kernel2D;
 use sweep::Channels;
 use sweep::Source;
+use sweep::Span;
 use tiling::Tiling;
 ghost use mathlib.Core.Path.{_≡_};
 ghost use Prim.Native.Nat.{_+_, _*_, _<_, _≤_};
 ghost use lib.ListN.{length};
 ghost use Rattle.base.specs.Grid.{area};
+ghost use Rattle.base.specs.Limits.{maxPixels, maxRadius, cppChroma, cppLength};
 ghost use Rattle.cpp.specs.Kernel.{KernelFits, lumKernel, chromaKernel};
 ghost use Rattle.sweep.specs.Sweep.{addAt, sweepOf, addKernels};
-ghost use Rattle.sweep.specs.Part.{Part};
-ghost use Rattle.both.specs.Both.{addPairs, pairRow, shareRow, shareOf, loneOf, commonOf, aloneOf, Shares, Twins};
+ghost use Rattle.sweep.specs.Part.{Fits, Steps};
+ghost use Rattle.both.specs.Both.{addPairs, pairSpan, lineOf, lineBelow, shareOf, loneOf, commonOf, aloneOf, Shares, Lined, LineFits, Twins};
 
 // Columns or rows from lo up to hi.
 pub struct Range {
@@ -26,6 +28,14 @@ pub struct Shared {
     pub common: Rect,
     pub one: Rect,
     pub two: Rect,
+}
+
+// Where a row of a swap stands: what both reach, by the one and by the other, and what each reaches alone.
+pub struct Line {
+    pub common: Span,
+    pub other: Span,
+    pub one: Span,
+    pub two: Span,
 }
 
 // What a kernel reaches alone: columns beside what both reach, and whole rows.
@@ -62,27 +72,21 @@ fn add_pairs(
     }
 }
 
-// Row y of the part c, where both kernels reach.
+// A span that both kernels reach: s by the one, o by the other.
 fn pair_row(
     cpe: &mut [f64],
     cpp: &[f64],
-    k: Kernel2D,
     channels: Channels,
-    w: Rect,
-    m: Source,
-    n: Source,
-    c: Rect,
-    y: usize,
+    a: YyCxCz,
+    b: YyCxCz,
+    s: Span,
+    o: Span,
 )
-    requires { ⌜ KernelFits k (now cpp) ⌝ }
-    requires { ⌜ length (now cpe) ≡ 3 * area w ⌝ }
-    requires { ⌜ Part k w m c ⌝ }
-    requires { ⌜ Part k w n c ⌝ }
-    requires { ⌜ (c .y0 ≤ y) × (y < c .y1) ⌝ }
-    ensures { λ _. ⌜ now (cpe .exit) ≡ pairRow channels (now (cpp .entry)) k w m n c y (now (cpe .entry)) ⌝ }
+    requires { ⌜ Fits (length (now cpe)) (length (now cpp)) s ⌝ }
+    requires { ⌜ Fits (length (now cpe)) (length (now cpp)) o ⌝ }
+    requires { ⌜ o .pixels ≡ s .pixels ⌝ }
+    ensures { λ _. ⌜ now (cpe .exit) ≡ pairSpan channels a b (now (cpp .entry)) s o (now (cpe .entry)) ⌝ }
 {
-    let s = sweep::part_at(k, w, m, c, y);
-    let o = sweep::part_at(k, w, n, c, y);
     let at = s.at;
     let at_end = at + 3 * s.pixels;
     let from = s.from;
@@ -94,32 +98,48 @@ fn pair_row(
         &cpp[from..from_end],
         &cpp[other..other_end],
         channels,
-        m.a,
-        n.a,
+        a,
+        b,
     );
 }
 
 // A row of a swap: the pixels that both kernels reach, then the column of the one, then that of the other.
-fn share_row(
-    cpe: &mut [f64],
-    cpp: &[f64],
-    k: Kernel2D,
-    channels: Channels,
-    w: Rect,
-    m: Source,
-    n: Source,
-    s: Shared,
-    y: usize,
-)
-    requires { ⌜ KernelFits k (now cpp) ⌝ }
-    requires { ⌜ length (now cpe) ≡ 3 * area w ⌝ }
+fn share_row(cpe: &mut [f64], cpp: &[f64], channels: Channels, a: YyCxCz, b: YyCxCz, l: Line)
+    requires { ⌜ LineFits (length (now cpe)) (length (now cpp)) l ⌝ }
+    ensures { λ _. ⌜ now (cpe .exit) ≡ lineOf channels a b (now (cpp .entry)) l (now (cpe .entry)) ⌝ }
+{
+    pair_row(cpe, cpp, channels, a, b, l.common, l.other);
+    sweep::span_pixel(cpe, cpp, channels, a, l.one);
+    sweep::span_pixel(cpe, cpp, channels, b, l.two);
+}
+
+// Where row y of a swap stands.
+fn line_at(k: Kernel2D, w: Rect, m: Source, n: Source, s: Shared, y: usize) -> Line
+    requires { ⌜ (k .radius ≤ maxRadius) × (k .from ≤ cppChroma) ⌝ }
     requires { ⌜ Shares k w m n s ⌝ }
     requires { ⌜ (s .common .y0 ≤ y) × (y < s .common .y1) ⌝ }
-    ensures { λ _. ⌜ now (cpe .exit) ≡ shareRow channels (now (cpp .entry)) k w m n s y (now (cpe .entry)) ⌝ }
+    ensures { λ l. ⌜ Lined k w m n s y l ⌝ }
 {
-    pair_row(cpe, cpp, k, channels, w, m, n, s.common, y);
-    sweep::sweep_pixel(cpe, cpp, k, channels, w, m, s.one, y);
-    sweep::sweep_pixel(cpe, cpp, k, channels, w, n, s.two, y);
+    Line {
+        common: sweep::part_at(k, w, m, s.common, y),
+        other: sweep::part_at(k, w, n, s.common, y),
+        one: sweep::part_at(k, w, m, s.one, y),
+        two: sweep::part_at(k, w, n, s.two, y),
+    }
+}
+
+// The same a row further down.
+fn line_below(k: Kernel2D, w: Rect, l: Line) -> Line
+    requires { ⌜ Steps k w ⌝ }
+    requires { ⌜ LineFits (3 * maxPixels) cppLength l ⌝ }
+    ensures { λ r. ⌜ r ≡ lineBelow k w l ⌝ }
+{
+    Line {
+        common: sweep::below(k, w, l.common),
+        other: sweep::below(k, w, l.other),
+        one: sweep::below(k, w, l.one),
+        two: sweep::below(k, w, l.two),
+    }
 }
 
 // The rows that both kernels reach.
@@ -138,11 +158,14 @@ fn share_rows(
     requires { ⌜ Shares k w m n s ⌝ }
     ensures { λ _. ⌜ now (cpe .exit) ≡ shareOf channels (now (cpp .entry)) k w m n s (now (cpe .entry)) ⌝ }
 {
-    let end = s.common.y1;
     let mut y = s.common.y0;
-    while y < end {
-        share_row(cpe, cpp, k, channels, w, m, n, s, y);
-        y += 1;
+    if y < s.common.y1 {
+        let mut l = line_at(k, w, m, n, s, y);
+        while y < s.common.y1 {
+            share_row(cpe, cpp, channels, m.a, n.a, l);
+            l = line_below(k, w, l);
+            y += 1;
+        }
     }
 }
 

@@ -10,10 +10,10 @@ use borrow.Rule.Slice.PartMut.{midOf, putMid, put-same}
 use Rattle.base.specs.declared.Rect.{Rect}
 use Rattle.base.specs.Loop.{upTo, fromTo}
 use Rattle.base.specs.Grid.{area, width, height, place}
-use Rattle.base.specs.Limits.{maxPixels, maxRadius, cppChroma}
+use Rattle.base.specs.Limits.{maxPixels, maxRadius, cppChroma, cppLength}
 use Rattle.base.proofs.Bounds.{index-le, product-le}
 use Rattle.base.specs.F64.{_+f_, _*f_}
-use Rattle.base.proofs.LoopLaws.{fromTo-none, fromTo-more, fromTo-keeps}
+use Rattle.base.proofs.LoopLaws.{fromTo-keeps, upTo-same}
 use Rattle.base.proofs.PartLaws.{get-part, set-part, fold-part}
 use Rattle.color.specs.declared.YyCxCz.{YyCxCz}
 use Rattle.tiling.specs.declared.Tiling.{Tiling}
@@ -24,7 +24,7 @@ use Rattle.sweep.specs.declared.Channels.the-variants.{Luminance, Chromi
 use Rattle.sweep.specs.declared.Source.{Source}
 use Rattle.sweep.specs.declared.Span.{Span}
 use Rattle.sweep.specs.Sweep.{Centred, first, past, footprintOf, grow, addAt, addPixels, sweepPixel, sweepRow, sweepOf, addKernels}
-use Rattle.sweep.specs.Part.{Part, RowSpan, pixelOf, rowOf, partOf}
+use Rattle.sweep.specs.Part.{Part, RowSpan, Fits, Steps, pixelOf, rowOf, partOf, spanOf, belowOf}
 
 -- ---- along one axis: the centre m lies in the window from a up to b
 pub record Axis (m r a b f p : ℕ) : Type 0 where
@@ -76,20 +76,47 @@ in-kernel : (b q a e r m : ℕ) → m ≤ a + r → a ≤ e → b + (q + (a + r 
 in-kernel b q a e r m h l = omega arith
 
 module _ (k : Kernel2D) (W : Rect) (m : Source) (C : Rect) (y : ℕ) (p : Part k W m C) (few : k .radius ≤ maxRadius) (low : C .y0 ≤ y) (high : y < C .y1) where
-  pub cpe-end-le : place 3 W (C .x0) y 0 + 3 * (C .x1 - C .x0) ≤ 3 * area W
+  cpe-end-le : place 3 W (C .x0) y 0 + 3 * (C .x1 - C .x0) ≤ 3 * area W
   unfolding place area width height
   cpe-end-le =
       let i = index-le (C .x1 - W .x0) (y - W .y0) (W .x1 - W .x0) (W .y1 - W .y0) (omega (arith, p .right)) (omega (arith, p .top, p .bottom)) in
       rw (in-row ((y - W .y0) * (W .x1 - W .x0)) (C .x0) (C .x1) (W .x0) (p .left) (p .columns)) (omega (arith, i))
 
-  pub window-le : 3 * area W ≤ 3 * maxPixels
+  window-le : 3 * area W ≤ 3 * maxPixels
   unfolding area width height
   window-le = omega (arith, product-le (W .y1 - W .y0) (W .x1 - W .x0) 4096 4096 (omega (arith, p .bottom-limit)) (omega (arith, p .right-limit)))
 
-  pub cpp-end-le : kernelPlace k (C .x0 + k .radius - m .x) (y + k .radius - m .y) + (C .x1 - C .x0) ≤ k .from + cppChroma
+  cpp-end-le : kernelPlace k (C .x0 + k .radius - m .x) (y + k .radius - m .y) + (C .x1 - C .x0) ≤ k .from + cppChroma
   cpp-end-le =
       let i = kernel-le (k .radius) (C .x1 + k .radius - m .x) (y + k .radius - m .y) few (omega (arith, p .to-right)) (omega (arith, p .to-bottom)) in
       rw (in-kernel (k .from) ((y + k .radius - m .y) * (2 * k .radius + 1)) (C .x0) (C .x1) (k .radius) (m .x) (p .from-left) (p .columns)) (omega (arith, i))
+
+  -- a span is row y's if it stands where the row does
+  pub row-span : k .from ≤ cppChroma → (s : Span) → s .at ≡ place 3 W (C .x0) y 0 → s .pixels ≡ C .x1 - C .x0 → s .from ≡ kernelPlace k (C .x0 + k .radius - m .x) (y + k .radius - m .y) → RowSpan k W m C y s
+  row-span store s a n f = record {
+    at-is = a;
+    pixels-are = n;
+    from-is = f;
+    cpe-end = rw (a, n) cpe-end-le;
+    cpe-limit = rw (a, n) (omega (arith, cpe-end-le, window-le));
+    cpp-end = rw (f, n) cpp-end-le;
+    cpp-limit = rw (f, n) (omega (arith, cpp-end-le, store));
+  }
+
+-- the row below
+module _ (k : Kernel2D) (W : Rect) (m : Source) (C : Rect) (y : ℕ) (p : Part k W m C) (few : k .radius ≤ maxRadius) (low : C .y0 ≤ y) (s : Span) (r : RowSpan k W m C y s) where
+  row-below : (a b q w : ℕ) → a ≡ b + 1 → 3 * (b * w + q) + 0 + 3 * w ≡ 3 * (a * w + q) + 0
+  row-below a b q w e = rw e (omega arith)
+
+  kernel-below : (f a b q w : ℕ) → a ≡ b + 1 → f + (b * w + q) + w ≡ f + (a * w + q)
+  kernel-below f a b q w e = rw e (omega arith)
+
+  pub below-is : k .from ≤ cppChroma → y + 1 < C .y1 → RowSpan k W m C (y + 1) (belowOf k W s)
+  unfolding place width
+  below-is store more = row-span k W m C (y + 1) p few (omega (arith, low)) more store (belowOf k W s)
+      (rw (r .at-is) (row-below (y + 1 - W .y0) (y - W .y0) (C .x0 - W .x0) (W .x1 - W .x0) (omega (arith, p .top, low))))
+      (r .pixels-are)
+      (rw (r .from-is) (kernel-below (k .from) (y + 1 + k .radius - m .y) (y + k .radius - m .y) (C .x0 + k .radius - m .x) (2 * k .radius + 1) (omega (arith, p .from-top, low))))
 
 -- ---- no value is added or lost
 
@@ -197,16 +224,20 @@ module _ (h : Channels) (cpp : List Float) (k : Kernel2D) (W : Rect) (m : Source
       (row-is (λ i j t. addAt h (m .a) (getD (midOf (s .from) (s .from + s .pixels - s .from) cpp) i nan) j t) (adds h (m .a) (midOf (s .from) (s .from + s .pixels - s .from) cpp)) (pixelOf h cpp k W m y) (C .x0) (s .at) (s .pixels) f
       (λ i l t. row-turn (s .pixels) i l t) (omega (arith, r .cpe-end, room)))
 
-  -- a row of one pixel
-  pub row-one : (f : List Float) → C .x1 ≡ C .x0 + 1 → addAt h (m .a) (getD cpp (s .from) nan) (s .at) f ≡ rowOf h cpp k W m C y f
-  unfolding rowOf
-  row-one f e =
-      let z : C .x0 + 0 ≡ C .x0 = omega arith in
-      let t : s .at + 3 * 0 ≡ s .at = omega arith in
-      let u : s .from + 0 ≡ s .from = omega arith in
-      rw (e, fromTo-more (C .x0) (C .x0) (pixelOf h cpp k W m y) f (omega arith), fromTo-none (C .x0) (C .x0) (pixelOf h cpp k W m y) f (omega arith)) (sym (rw (z, t, u) at (pixel-is 0 f)))
+  -- the row by where it stands
+  pub span-is : (f : List Float) → spanOf h (m .a) cpp s f ≡ rowOf h cpp k W m C y f
+  unfolding spanOf rowOf fromTo
+  span-is f = rw (r .pixels-are) (upTo-same (C .x1 - C .x0) _ _ f (λ i l t. sym (pixel-is i t)))
 
--- an empty row
-pub row-none : (h : Channels) (cpp : List Float) (k : Kernel2D) (W : Rect) (m : Source) (C : Rect) (y : ℕ) (f : List Float) → C .x1 ≤ C .x0 → f ≡ rowOf h cpp k W m C y f
-unfolding rowOf
-row-none h cpp k W m C y f l = sym (fromTo-none (C .x0) (C .x1) (pixelOf h cpp k W m y) f l)
+-- a span of one pixel
+pub span-one : (h : Channels) (a : YyCxCz) (cpp : List Float) (s : Span) (f : List Float) → s .pixels ≡ 1 → addAt h a (getD cpp (s .from) nan) (s .at) f ≡ spanOf h a cpp s f
+unfolding spanOf upTo
+span-one h a cpp s f e =
+    let t : s .at + 3 * 0 ≡ s .at = omega arith in
+    let u : s .from + 0 ≡ s .from = omega arith in
+    rw (e, t, u)
+
+-- an empty one
+pub span-none : (h : Channels) (a : YyCxCz) (cpp : List Float) (s : Span) (f : List Float) → s .pixels ≡ 0 → f ≡ spanOf h a cpp s f
+unfolding spanOf upTo
+span-none h a cpp s f e = rw e

@@ -8,10 +8,10 @@ ghost use mathlib.Core.Path.{_≡_};
 ghost use Prim.Native.Nat.{_+_, _*_, _<_, _≤_};
 ghost use lib.ListN.{length};
 ghost use Rattle.base.specs.Grid.{area};
-ghost use Rattle.base.specs.Limits.{maxSide, maxRadius, cppChroma};
+ghost use Rattle.base.specs.Limits.{maxSide, maxPixels, maxRadius, cppChroma, cppLength};
 ghost use Rattle.cpp.specs.Kernel.{KernelFits, size, kernelPlace, lumKernel, chromaKernel};
 ghost use Rattle.sweep.specs.Sweep.{Centred, grow, addAt, addPixels, first, past, footprintOf, sweepOf, addKernels};
-ghost use Rattle.sweep.specs.Part.{Part, RowSpan, rowOf, partOf};
+ghost use Rattle.sweep.specs.Part.{Part, RowSpan, Fits, Steps, rowOf, partOf, spanOf, belowOf};
 
 // Which channels a kernel is for: Yy takes the luminance kernel, Cx and Cz the chrominance kernel.
 pub enum Channels {
@@ -37,7 +37,10 @@ pub struct Source {
 fn first_in(m: usize, r: usize, a: usize) -> usize
     ensures { λ q. ⌜ q ≡ first m r a ⌝ }
 {
-    base::larger(a, base::saturating_sub(m, r))
+    if m < r {
+        return a;
+    }
+    base::larger(a, m - r)
 }
 
 // One past its last.
@@ -142,27 +145,28 @@ fn sweep_row(
     add_row(&mut cpe[at..at_end], &cpp[from..from_end], channels, m.a);
 }
 
-// Row y of a part c that is one pixel wide, or empty.
-pub fn sweep_pixel(
-    cpe: &mut [f64],
-    cpp: &[f64],
-    k: Kernel2D,
-    channels: Channels,
-    w: Rect,
-    m: Source,
-    c: Rect,
-    y: usize,
-)
-    requires { ⌜ KernelFits k (now cpp) ⌝ }
-    requires { ⌜ length (now cpe) ≡ 3 * area w ⌝ }
-    requires { ⌜ Part k w m c ⌝ }
-    requires { ⌜ (c .y0 ≤ y) × (y < c .y1) × (c .x1 ≤ c .x0 + 1) ⌝ }
-    ensures { λ _. ⌜ now (cpe .exit) ≡ rowOf channels (now (cpp .entry)) k w m c y (now (cpe .entry)) ⌝ }
+// The span a row further down.
+pub fn below(k: Kernel2D, w: Rect, s: Span) -> Span
+    requires { ⌜ Steps k w ⌝ }
+    requires { ⌜ Fits (3 * maxPixels) cppLength s ⌝ }
+    ensures { λ r. ⌜ r ≡ belowOf k w s ⌝ }
 {
-    let s = part_at(k, w, m, c, y);
+    Span {
+        at: s.at + 3 * (w.x1 - w.x0),
+        pixels: s.pixels,
+        from: s.from + (2 * k.radius + 1),
+    }
+}
+
+// A span that is one pixel wide, or empty.
+pub fn span_pixel(cpe: &mut [f64], cpp: &[f64], channels: Channels, a: YyCxCz, s: Span)
+    requires { ⌜ Fits (length (now cpe)) (length (now cpp)) s ⌝ }
+    requires { ⌜ s .pixels ≤ 1 ⌝ }
+    ensures { λ _. ⌜ now (cpe .exit) ≡ spanOf channels a (now (cpp .entry)) s (now (cpe .entry)) ⌝ }
+{
     if 0 < s.pixels {
         let from = s.from;
-        add_at(cpe, s.at, channels, m.a, cpp[from]);
+        add_at(cpe, s.at, channels, a, cpp[from]);
     }
 }
 

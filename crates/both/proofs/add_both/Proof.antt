@@ -43,7 +43,7 @@ returns c =
     let n = a .n in
     rw (c .before .before .sweep-both2 .ensures, at-sweep-both .sweep-both .ensures, c .before .before .before .chroma-kernel .ensures, at-lum-kernel .lum-kernel .ensures)
     (ap (λ (g : List Float). sweepOf Chrominance (n .a) (a .cpp .now) (chromaKernel (a .t)) (a .w) (n .x) (n .y) g)
-    (sym (either-first (a .cpp .now) (lumKernel (a .t)) (chromaKernel (a .t)) (a .w) m n _ (sized-sweep Luminance (m .a) (a .cpp .now) (lumKernel (a .t)) (a .w) (m .x) (m .y) (a .cpe .now) (s .pre .1 .1 .0)))))
+    (sym (either-first (a .cpp .now) (lumKernel (a .t)) (chromaKernel (a .t)) (a .w) m n (sweepOf Luminance (m .a) (a .cpp .now) (lumKernel (a .t)) (a .w) (m .x) (m .y) (a .cpe .now)) (sized-sweep Luminance (m .a) (a .cpp .now) (lumKernel (a .t)) (a .w) (m .x) (m .y) (a .cpe .now) (s .pre .1 .1 .0)))))
 
 pub add-both-spec : {M : Type 1} → statement M
 add-both-spec =

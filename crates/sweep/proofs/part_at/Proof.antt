@@ -1,7 +1,6 @@
 -- `sweep::part_at` meets its contract: the row lies in the window and in the kernel. Assumes nothing.
 use mathlib.Core.Path.{_≡_, refl}
-use native.Mathlib.Omega.{arith}
-use Rattle.sweep.proofs.Laws.{cpe-end-le, window-le, cpp-end-le}
+use Rattle.sweep.proofs.Laws.{row-span}
 use borrow.Author.Needs.{needs}
 use Rattle.sweep.proofs.part_at.Statement.{statement}
 use Rattle.sweep.proofs.part_at.Tie as tie
@@ -41,17 +40,7 @@ returns c =
     let p = S c .pre .1 .0 in
     let few = S c .pre .0 .0 in
     let y = S c .pre .1 .1 in
-    let cpe = cpe-end-le (a .k) (a .w) (a .m) (a .c) (a .y) p few (y .0) (y .1) in
-    let cpp = cpp-end-le (a .k) (a .w) (a .m) (a .c) (a .y) p few (y .0) (y .1) in
-    rw (at-place .place .ensures, c .kernel-place .ensures) (record {
-      at-is = refl;
-      pixels-are = refl;
-      from-is = refl;
-      cpe-end = cpe;
-      cpe-limit = omega (arith, cpe, window-le (a .k) (a .w) (a .m) (a .c) (a .y) p few (y .0) (y .1));
-      cpp-end = cpp;
-      cpp-limit = omega (arith, cpp, S c .pre .0 .1);
-    })
+    rw (at-place .place .ensures, c .kernel-place .ensures) (row-span (a .k) (a .w) (a .m) (a .c) (a .y) p few (y .0) (y .1) (S c .pre .0 .1) _ refl refl refl)
 
 pub part-at-spec : {M : Type 1} → statement M
 part-at-spec =
