@@ -96,6 +96,19 @@ fromTo-join a m b f s p q = sym (
     fromTo-ind (λ i t. t ≡ fromTo a i f s) m b f (fromTo a m f s) q
     (λ i h l t e. ap (f i) e ∙ sym (fromTo-more a i f s (omega (arith, p, h)))) refl)
 
+-- a loop in two parts
+pub upTo-join : {A : Type 0} (f : ℕ → A → A) (a k : ℕ) (s : A) → upTo (λ i. f (a + i)) k (upTo f a s) ≡ upTo f (a + k) s
+unfolding upTo
+upTo-join f a zero s = let e : a + 0 ≡ a = omega arith in rw e
+upTo-join f a (suc k) s = let e : a + suc k ≡ suc (a + k) = omega arith in rw e (ap (f (a + k)) (upTo-join f a k s))
+
+-- a loop whose counter is shifted
+pub fromTo-shift : {A : Type 0} (k a b : ℕ) (f : ℕ → A → A) (s : A) → fromTo a b (λ i. f (k + i)) s ≡ fromTo (k + a) (k + b) f s
+unfolding fromTo
+fromTo-shift {A} k a b f s =
+    let e : k + b - (k + a) ≡ b - a = omega arith in
+    rw e (upTo-same (b - a) (λ i. f (k + (a + i))) (λ i. f (k + a + i)) s (λ i h t. let g : k + (a + i) ≡ k + a + i = omega arith in rw g))
+
 -- ---- a part of the state
 
 -- that each turn changes by itself

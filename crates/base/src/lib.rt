@@ -90,7 +90,8 @@ pub fn saturating_sub(a: usize, b: usize) -> usize
 // Where the values of pixel (x, y) begin in the list of w, k values a pixel; x may be one past a row's end.
 pub fn place(k: usize, w: Rect, x: usize, y: usize) -> usize
     requires { ⌜ k ≤ 3 ⌝ }
-    requires { ⌜ (w .x0 ≤ x) × (x ≤ w .x1) × (w .y0 ≤ y) × (y < w .y1) ⌝ }
+    requires { ⌜ (w .x0 ≤ x) × (x ≤ w .x1) ⌝ }
+    requires { ⌜ (w .y0 ≤ y) × (y < w .y1) ⌝ }
     requires { ⌜ (w .x1 ≤ maxSide) × (w .y1 ≤ maxSide) ⌝ }
     ensures { λ i. ⌜ i ≡ grid.place k w x y 0 ⌝ }
 {

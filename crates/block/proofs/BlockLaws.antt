@@ -10,7 +10,7 @@ use lib.Ieee.{Float, nan}
 use Rattle.base.specs.Loop.{fromTo, table}
 use Rattle.base.specs.F64.{_+f_, _*f_}
 use Rattle.base.proofs.Bounds.{lt-or-ge}
-use Rattle.base.proofs.LoopLaws.{fromTo-none, fromTo-more, fromTo-rel, upTo-same}
+use Rattle.base.proofs.LoopLaws.{fromTo-none, fromTo-more, fromTo-rel, upTo-same, fromTo-shift}
 use Rattle.base.proofs.TableLaws.{length-table, getD-table}
 use Rattle.color.specs.Inks.{channel}
 use Rattle.correlate.specs.Correlate.{at, tapTerm, tapSum, rowTaps, Spread, SpreadFits}
@@ -52,13 +52,6 @@ span-past w X R C A j h right =
     (λ l. let e : X - R ≡ 0 = omega (arith, l) in rw e (near-past w X R (R - X) C A j (omega (arith, l)) h))
     (λ g. let e : R - X ≡ 0 = omega (arith, g) in rw e (far-past w X R (X - R) C A j (omega (arith, g)) h right))
     (lt-or-ge X R)
-
--- a loop whose counter is shifted
-shift : {A : Type 0} (k a b : ℕ) (f : ℕ → A → A) (s : A) → fromTo a b (λ i. f (k + i)) s ≡ fromTo (k + a) (k + b) f s
-unfolding fromTo
-shift {A} k a b f s =
-    let e : k + b - (k + a) ≡ b - a = omega arith in
-    rw e (upTo-same (b - a) (λ i. f (k + (a + i))) (λ i. f (k + a + i)) s (λ i h t. let g : k + (a + i) ≡ k + a + i = omega arith in rw g))
 
 ends : {a b a′ b′ : ℕ} (f : ℕ → Float → Float) (t : Float) → a ≡ a′ → b ≡ b′ → fromTo a b f t ≡ fromTo a′ b′ f t
 ends f t p q = rw (p, q)
@@ -102,7 +95,7 @@ module _ (B : Block) (G : Scene) (taps : List Float) (n m : ℕ) (fits : BlockFi
       let value : at line q ≡ channel (B .channel) (errorAt (B .width) G (x0 + q) y) = ap (λ (l : List Float). at l q) e ∙ getD-table count (errorInRow (B .width) G (B .channel) x0 y) q nan in-line in
       rw (same, value, column-is (B .x) (B .before) j q, row-is-top y (B .before) (B .y) i))
       s s refl
-      ∙ shift x0 (j - lead) (min count (j + k - lead)) term s
+      ∙ fromTo-shift x0 (j - lead) (min count (j + k - lead)) term s
       ∙ ends term s (span-first (B .x) (B .before) j) (span-past (B .width) (B .x) (B .before) C (B .after) j in-j (fits .right))
 
   pub row-adds : (y : ℕ) (line sums sums′ : List Float) (a b d : ℕ) → d ≡ lead → line ≡ table (columnCount B) (errorInRow (B .width) G (B .channel) x0 y) →

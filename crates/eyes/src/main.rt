@@ -145,7 +145,9 @@ const EYES: [u64; 126] = [
 
 // Computes both kernels of an accepted eye into cpp and gives their checksum.
 fn kernels(params: DbsParams, lum_radius: usize, chroma_radius: usize, cpp: &mut [f64]) -> u64
-    requires { ⌜ (judge (eyeTests params) ≡ accepted) × KernelRadius «lum_radius» × KernelRadius «chroma_radius» × (length (now cpp) ≡ cppLength) ⌝ }
+    requires { ⌜ judge (eyeTests params) ≡ accepted ⌝ }
+    requires { ⌜ KernelRadius «lum_radius» × KernelRadius «chroma_radius» ⌝ }
+    requires { ⌜ length (now cpp) ≡ cppLength ⌝ }
 {
     kernel::eye_kernels(params, cpp);
     let lum_size = 2 * lum_radius + 1;

@@ -136,7 +136,8 @@ pub fn autocorrelate(p: &[f64], r: usize, c: &mut [f64])
 
 // The autocorrelation kernel of a blur width; p is room for the blur.
 fn kernel_into(sigma: f64, r: usize, p: &mut [f64], c: &mut [f64])
-    requires { ⌜ Narrow sigma × (r ≡ blurRadius sigma) × (r ≤ 16) × (length (now p) ≡ values r) × (length (now c) ≡ values (2 * r)) ⌝ }
+    requires { ⌜ Narrow sigma × (r ≡ blurRadius sigma) ⌝ }
+    requires { ⌜ (r ≤ 16) × (length (now p) ≡ values r) × (length (now c) ≡ values (2 * r)) ⌝ }
     ensures { λ _. ⌜ now (c .exit) ≡ kernelOf sigma ⌝ }
 {
     gaussian_blur(sigma, p);

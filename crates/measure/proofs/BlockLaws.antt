@@ -10,7 +10,7 @@ use lib.Ieee.{Float, nan}
 use Rattle.base.specs.Loop.{upTo, fromTo, table}
 use Rattle.base.specs.F64.{_+f_, _*f_, f0}
 use Rattle.base.proofs.Bounds.{index-lt, product-le}
-use Rattle.base.proofs.LoopLaws.{upTo-none, fromTo-rel, fromTo-same, upTo-same}
+use Rattle.base.proofs.LoopLaws.{upTo-none, fromTo-rel, fromTo-same, upTo-same, upTo-join}
 use Rattle.base.proofs.TableLaws.{length-table, getD-table, table-same}
 use Rattle.kernel.specs.Kernel.{entry}
 use Rattle.correlate.specs.Correlate.{at}
@@ -122,12 +122,6 @@ module _ (W : View) (G : Scene) (taps : List Float) (square : length taps ≡ (2
       (λ i h. upTo-same (min 128 (F .width + R - x)) _ _ (at sums i) (λ j g s. rw (seen-is x y rows i j))))
 
 -- ---- bands
-
--- a loop in two parts
-pub upTo-join : {A : Type 0} (f : ℕ → A → A) (a k : ℕ) (s : A) → upTo (λ i. f (a + i)) k (upTo f a s) ≡ upTo f (a + k) s
-unfolding upTo
-upTo-join f a zero s = let e : a + 0 ≡ a = omega arith in rw e
-upTo-join f a (suc k) s = let e : a + suc k ≡ suc (a + k) = omega arith in rw e (ap (f (a + k)) (upTo-join f a k s))
 
 module _ (F : Frame) (G : Scene) (blur : List Float) (c y n : ℕ) where
   -- the sums of n rows from y on, with the squares of the columns left of x

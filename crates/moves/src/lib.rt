@@ -106,7 +106,8 @@ fn swap_with(
     requires { ⌜ Inside w x y ⌝ }
     requires { ⌜ Inside w nx ny ⌝ }
     requires { ⌜ Writable t w (now inks) (now cpp) (length (now cpe)) (now indices) ⌝ }
-    requires { ⌜ (x ≤ nx + 1) × (nx ≤ x + 1) × (y ≤ ny + 1) × (ny ≤ y + 1) ⌝ }
+    requires { ⌜ (x ≤ nx + 1) × (nx ≤ x + 1) ⌝ }
+    requires { ⌜ (y ≤ ny + 1) × (ny ≤ y + 1) ⌝ }
     ensures { λ _. ⌜ now (cpe .exit) ≡ swapKernels (shared t 0 [] (now (inks .entry)) (now (cpp .entry))) w x y (Pixel nx ny) (now (indices .entry)) (now (cpe .entry)) ⌝ }
     ensures { λ _. ⌜ now (indices .exit) ≡ exchanged w x y (Pixel nx ny) (now (indices .entry)) ⌝ }
 {

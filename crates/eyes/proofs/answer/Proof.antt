@@ -24,7 +24,7 @@ kernels-requires c κs =
     let ok = eye-accepted (start .args .params) (ap (λ (e : Eye). e .status .number) (sym v) ∙ c .before .if1 .left) in
     let radii = sym (v ∙ eye-radii (start .args .params) ok) in
     let fit = radii-fit (start .args .params) ok in
-    (ok, subst (λ (e : Eye). KernelRadius (e .«lum_radius»)) radii (fit .0), subst (λ (e : Eye). KernelRadius (e .«chroma_radius»)) radii (fit .1), start .pre)
+    (ok, ((subst (λ (e : Eye). KernelRadius (e .«lum_radius»)) radii (fit .0), subst (λ (e : Eye). KernelRadius (e .«chroma_radius»)) radii (fit .1)), start .pre))
 
 two-requires-2 : tie.Need-two-requires-2
 two-requires-2 c κs = search needs

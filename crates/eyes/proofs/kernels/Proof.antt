@@ -10,7 +10,7 @@ use Rattle.eyes.proofs.kernels.Tie as tie
 
 -- what the two parts need
 fits : (c : tie.Start) → let l = 2 * c .args .lum-radius + 1 in let k = 2 * c .args .chroma-radius + 1 in (l * l ≤ 4225) × (k * k ≤ 4225)
-fits c = (kernel-fits _ (c .pre .1), kernel-fits _ (c .pre .2))
+fits c = (kernel-fits _ (c .pre .1 .0 .0), kernel-fits _ (c .pre .1 .0 .1))
 
 eye-kernels-requires : tie.Need-eye-kernels-requires
 eye-kernels-requires c κs = search needs
@@ -37,13 +37,13 @@ add-chroma-end : tie.Need-add-chroma-end
 add-chroma-end c = omega (arith, fits (c .before .before .before .before .before))
 
 slice-reshare-prefix-floats : tie.Need-slice-reshare-prefix-floats
-slice-reshare-prefix-floats c = omega (arith, fits (c .before .before .before .before .before), c .before .before .eye-kernels .kept, c .before .before .before .before .before .pre .3)
+slice-reshare-prefix-floats c = omega (arith, fits (c .before .before .before .before .before), c .before .before .eye-kernels .kept, c .before .before .before .before .before .pre .1 .1)
 
 slice-aggregate-floats : tie.Need-slice-aggregate-floats
 slice-aggregate-floats c =
     let earlier = c .before .before .before .before .before in
     let start = earlier .before in
-    sym (length-take-le _ _ (omega (arith, fits (start), c .before .before .before .eye-kernels .kept, start .pre .3)))
+    sym (length-take-le _ _ (omega (arith, fits (start), c .before .before .before .eye-kernels .kept, start .pre .1 .1)))
 
 floats-requires : tie.Need-floats-requires
 floats-requires c κs = search needs
@@ -58,7 +58,7 @@ part-floats-end : tie.Need-part-floats-end
 part-floats-end c =
     let earlier = c .before .before .before .before .before in
     let start = earlier .before .before .before in
-    omega (arith, fits (start), c .before .before .before .before .before .eye-kernels .kept, start .pre .3)
+    omega (arith, fits (start), c .before .before .before .before .before .eye-kernels .kept, start .pre .1 .1)
 
 floats-requires-2 : tie.Need-floats-requires-2
 floats-requires-2 c κs = search needs

@@ -63,12 +63,15 @@ part-kernel-into-end c = omega (arith, room (c .before), c .before .before .befo
 
 kernel-into-requires : tie.Need-kernel-into-requires
 kernel-into-requires c κs =
-    let r = c .before .before .blur-radius .result in (
-      c .before .before .before .before .before .pre .0,
-      c .before .before .blur-radius .ensures .0,
-      c .before .before .blur-radius .ensures .1,
-      length-take-le (values r) (c .before .before .before .before .before .args .p .now) (omega (arith, room (c .before .before), c .before .before .before .before .before .pre .1)),
-      part-length (c .before .before .before .before .before .args .cpp .now) (c .before .before .before .before .before .args .base) (values (2 * r)) (omega (arith, room (c .before .before), c .before .before .before .before .before .pre .2)),
+    let start = c .before .before .before .before .before in
+    let found = c .before .before .blur-radius in
+    let r = found .result in (
+      (start .pre .0, found .ensures .0),
+      (
+        found .ensures .1,
+        length-take-le (values r) (start .args .p .now) (omega (arith, room (c .before .before), start .pre .1)),
+        part-length (start .args .cpp .now) (start .args .base) (values (2 * r)) (omega (arith, room (c .before .before), start .pre .2)),
+      ),
     )
 
 same-length : tie.Need-same-length

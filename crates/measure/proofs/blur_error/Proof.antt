@@ -8,12 +8,12 @@ use lib.Seq.{length-take-le}
 use lib.Ieee.{Float}
 use Rattle.base.specs.Loop.{upTo}
 use Rattle.base.specs.F64.{_+f_, f0}
-use Rattle.base.proofs.LoopLaws.{upTo-none}
+use Rattle.base.proofs.LoopLaws.{upTo-none, upTo-join}
 use Rattle.base.proofs.TableLaws.{length-table}
 use Rattle.error.specs.Error.{Scene, scene}
 use Rattle.measure.specs.Measure.{rowError, blurError}
 use Rattle.measure.specs.Blocks.{mirrorOf}
-use Rattle.measure.proofs.BlockLaws.{upTo-join, same-view, next-band, band-summed, kept-length}
+use Rattle.measure.proofs.BlockLaws.{same-view, next-band, band-summed, kept-length}
 use borrow.Author.Needs.{needs}
 use Rattle.measure.proofs.blur_error.Statement.{statement}
 use Rattle.measure.proofs.blur_error.Tie as tie

@@ -17,9 +17,9 @@ swap-with-requires c κs =
     let start = earlier .before .before .before .before .before in
     let a = start .args in
     let h = start .pre .0 in
-    let found = sym (c .before .before .before .before .before .neighbour .ensures) ∙ c .before .before .before .nx .given .1 in
+    let found = rw (earlier .neighbour .ensures) at (c .before .before .before .nx .given .1) in
     let near = neighbour-inside (a .t) (a .w) (a .code) (a .x) (a .y) _ _ h found in
-    (held-inside (a .t) (a .w) (a .x) (a .y) h, (near .0, (start .pre .1, (near .1 .low, near .1 .high, near .2 .low, near .2 .high))))
+    (held-inside (a .t) (a .w) (a .x) (a .y) h, (near .0, (start .pre .1, ((near .1 .low, near .1 .high), (near .2 .low, near .2 .high)))))
 
 enum-told : tie.Need-enum-told
 enum-told c = search needs
@@ -35,7 +35,7 @@ returns c =
     let earlier = c .before .before .before .before .before in
     let at-nx = earlier .before .before .before in
     let at-neighbour = at-nx .before .before in
-    let found = sym (at-neighbour .neighbour .ensures) ∙ at-nx .nx .given .1 in
+    let found = rw (at-neighbour .neighbour .ensures) at (at-nx .nx .given .1) in
     rw found (c .before .before .before .before .swap-with .ensures)
 
 returns-2 : tie.Need-returns-2

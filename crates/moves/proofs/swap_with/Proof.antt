@@ -38,7 +38,7 @@ add-both-requires c κs =
         record { most = w .limits .chroma-limit; room = omega (arith, w .cpp-room); all = w .cpp-room },
         (
           w .cpe,
-          record { one = s .pre .0; two = s .pre .1 .0; right-limit = window .0; bottom-limit = window .1; x-low = b .0; x-high = b .1; y-low = b .2; y-high = b .3 },
+          record { one = s .pre .0; two = s .pre .1 .0; right-limit = window .0; bottom-limit = window .1; x-low = b .0 .0; x-high = b .0 .1; y-low = b .1 .0; y-high = b .1 .1 },
         ),
       ),
     )
