@@ -2,57 +2,12 @@
 // that file's form. One function to a kind of line. In a line, numbers from 0 count its words.
 use base::Index;
 use base::Status;
+use given::INDICES;
+use given::PINNED;
 use work::DbsWorked;
 ghost use Prim.Native.Nat.{_≤_};
 
 const STDOUT: i32 = 1;
-
-// What a run is given, in one buffer of bytes: room for 1,024 of each, and where it begins.
-const ROOM: usize = 1024;
-
-const PALETTE: usize = 1024;
-
-const PINNED: usize = 2048;
-
-const INDICES: usize = 3072;
-
-// How many bytes of each a line has.
-pub struct Given {
-    pixels: usize,
-    palette: usize,
-    pinned: usize,
-    indices: usize,
-}
-
-// Reads what a run is given, words 6 to 9.
-pub fn read_given(line: &[u8], given: &mut [u8]) -> Given {
-    let pixels = lines::read(line, 6, given, 0, ROOM);
-    let palette = lines::read(line, 7, given, PALETTE, ROOM);
-    let pinned = lines::read(line, 8, given, PINNED, ROOM);
-    let indices = lines::read(line, 9, given, INDICES, ROOM);
-    Given {
-        pixels,
-        palette,
-        pinned,
-        indices,
-    }
-}
-
-pub fn pixels(given: &[u8], g: Given) -> &[u8] {
-    lines::seen_span(given, 0, g.pixels)
-}
-
-pub fn palette(given: &[u8], g: Given) -> &[u8] {
-    lines::seen_span(given, PALETTE, g.palette)
-}
-
-pub fn pinned(given: &[u8], g: Given) -> &[u8] {
-    lines::seen_span(given, PINNED, g.pinned)
-}
-
-pub fn indices(given: &[u8], g: Given) -> &[u8] {
-    lines::seen_span(given, INDICES, g.indices)
-}
 
 // The pixel of the copies' buffers at which a copy begins.
 fn from(line: &[u8]) -> usize
@@ -61,86 +16,10 @@ fn from(line: &[u8]) -> usize
     lines::clamp(lines::number(line, 2), 1024)
 }
 
-fn print_status(name: &[u8], s: Status) {
-    io::write_all(STDOUT, name);
-    lines::print_number(s.number);
-    lines::print_number(s.place);
-}
-
-pub fn print_floats(values: &[f64]) {
-    lines::print_sum(checksum::floats(0, values));
-}
-
-fn print_bytes(values: &[u8]) {
-    lines::print_sum(checksum::bytes(values));
-}
-
-fn print_words(values: &[u64]) {
-    lines::print_sum(checksum::words(values));
-}
-
 fn print_copy(copy_cpe: &[f64], copy_indices: &[Index]) {
-    print_floats(copy_cpe);
-    print_bytes(copy_indices);
+    given::print_floats(copy_cpe);
+    given::print_bytes(copy_indices);
     lines::end_line();
-}
-
-fn print_opened(
-    s: Status,
-    cpe: &[f64],
-    cpp: &[f64],
-    inks: &[f64],
-    states: &[u8],
-    deltas: &[f64],
-    record: &[u64],
-) {
-    print_status(b"opened", s);
-    print_floats(cpe);
-    print_floats(cpp);
-    print_floats(inks);
-    print_bytes(states);
-    print_floats(deltas);
-    print_words(record);
-    lines::end_line();
-}
-
-pub fn open(
-    line: &[u8],
-    g: Given,
-    given: &[u8],
-    cpe: &mut [f64],
-    cpp: &mut [f64],
-    counts: &[u32],
-    inks: &mut [f64],
-    states: &mut [u8],
-    deltas: &mut [f64],
-    record: &mut [u64],
-) {
-    let cpe = lines::floats(line, 10, cpe, 0);
-    let cpp = lines::floats(line, 11, cpp, 0);
-    let inks = lines::floats(line, 13, inks, 0);
-    let states = lines::part(line, 14, states, 0);
-    let deltas = lines::floats(line, 15, deltas, 0);
-    let record = lines::words(line, 16, record);
-    let s = dbs::dbs_open(
-        record,
-        pixels(given, g),
-        lines::number(line, 1),
-        lines::number(line, 2),
-        palette(given, g),
-        indices(given, g),
-        pinned(given, g),
-        lines::float(line, 4),
-        lines::float(line, 5),
-        lines::number(line, 3),
-        cpe,
-        cpp,
-        lines::seen_counts(line, 12, counts),
-        states,
-        deltas,
-        inks,
-    );
-    print_opened(s, cpe, cpp, inks, states, deltas, record);
 }
 
 pub fn take(
@@ -164,8 +43,8 @@ pub fn take(
         copy_cpe,
         copy_indices,
     );
-    print_status(b"taken", s);
-    print_bytes(states);
+    given::print_status(b"taken", s);
+    given::print_bytes(states);
     print_copy(copy_cpe, copy_indices);
 }
 
@@ -209,12 +88,12 @@ fn print_back(
     deltas: &[f64],
     record: &[u64],
 ) {
-    print_status(b"back", s);
-    print_bytes(indices);
-    print_floats(cpe);
-    print_bytes(states);
-    print_floats(deltas);
-    print_words(record);
+    given::print_status(b"back", s);
+    given::print_bytes(indices);
+    given::print_floats(cpe);
+    given::print_bytes(states);
+    given::print_floats(deltas);
+    given::print_words(record);
     lines::end_line();
 }
 
@@ -264,10 +143,10 @@ pub fn close(
         states,
         lines::seen_floats(line, 3, deltas, 0),
     );
-    print_status(b"closed", s);
+    given::print_status(b"closed", s);
     lines::print_sum(checksum::counts(counts));
-    print_bytes(states);
-    print_words(record);
+    given::print_bytes(states);
+    given::print_words(record);
     lines::end_line();
 }
 

@@ -3,155 +3,10 @@
 //   grep -E '^(call|open|take|work|put_back|close|word|index) ' compare/replay.txt > crates/replay/stdin
 //   grep -E '^(refine|measure|opened|taken|worked|back|closed) ' compare/replay.txt > crates/replay/stdout
 use base::Index;
-use lists::Given;
-use perceived::Measured;
-use refine::DbsStats;
 ghost use Prim.Native.Nat.{_<_, _≤_};
 ghost use lib.ListN.{length};
 
 const STDIN: i32 = 0;
-
-const STDOUT: i32 = 1;
-
-// The count of a pass, if it was run.
-fn print_count(count: u32, pass: usize, passes: u64) {
-    if pass as u64 >= passes {
-        return;
-    }
-    if pass > 0 {
-        io::write_all(STDOUT, b",");
-    }
-    io::print_decimal(STDOUT, count as u64);
-}
-
-fn print_counts(counts: &[u32], passes: u64) {
-    if passes == 0 {
-        io::write_all(STDOUT, b"-");
-    }
-    for pass in 0..counts.len() {
-        print_count(counts[pass], pass, passes);
-    }
-}
-
-fn print_stats(stats: DbsStats) {
-    io::write_all(STDOUT, b"refine");
-    lines::print_number(stats.number);
-    lines::print_number(stats.place);
-    lines::print_number(stats.passes);
-    lines::print_float(stats.initial_error);
-    lines::print_float(stats.final_error);
-}
-
-fn print_buffers(
-    passes: u64,
-    indices: &[Index],
-    cpe: &[f64],
-    cpp: &[f64],
-    counts: &[u32],
-    inks: &[f64],
-) {
-    lines::space();
-    lines::print_bytes(indices);
-    lines::space();
-    print_counts(counts, passes);
-    lists::print_floats(cpe);
-    lists::print_floats(cpp);
-    lines::print_sum(checksum::counts(counts));
-    lists::print_floats(inks);
-    lines::end_line();
-}
-
-fn print_measured(m: Measured) {
-    io::write_all(STDOUT, b"measure");
-    lines::print_number(m.number);
-    lines::print_number(m.place);
-    lines::print_float(m.error);
-    lines::end_line();
-}
-
-// The indices are refined in a buffer of their own.
-fn refine(
-    line: &[u8],
-    g: Given,
-    given: &[u8],
-    indices: &mut [Index],
-    cpe: &mut [f64],
-    cpp: &mut [f64],
-    counts: &mut [u32],
-    inks: &mut [f64],
-) {
-    let indices = lines::read_part(line, 9, indices);
-    let cpe = lines::floats(line, 10, cpe, 0);
-    let cpp = lines::floats(line, 11, cpp, 0);
-    let counts = lines::counts(line, 12, counts);
-    let inks = lines::floats(line, 13, inks, 0);
-    let stats = dbs::dbs_refine(
-        lists::pixels(given, g),
-        lines::number(line, 1),
-        lines::number(line, 2),
-        lists::palette(given, g),
-        indices,
-        lists::pinned(given, g),
-        lines::float(line, 4),
-        lines::float(line, 5),
-        lines::number(line, 3),
-        cpe,
-        cpp,
-        counts,
-        inks,
-    );
-    print_stats(stats);
-    print_buffers(stats.passes, indices, cpe, cpp, counts, inks);
-}
-
-fn measure(line: &[u8], g: Given, given: &[u8]) {
-    let m = dbs::perceived_error(
-        lists::pixels(given, g),
-        lines::number(line, 1),
-        lines::number(line, 2),
-        lists::palette(given, g),
-        lists::indices(given, g),
-        lines::float(line, 4),
-        lines::float(line, 5),
-    );
-    print_measured(m);
-}
-
-fn call_in(
-    text: &[u8],
-    given: &mut [u8],
-    indices: &mut [Index],
-    cpe: &mut [f64],
-    cpp: &mut [f64],
-    counts: &mut [u32],
-    inks: &mut [f64],
-) {
-    let from = 0;
-    let end = lines::line_end(text, from);
-    let line = &text[from..end];
-    let g = lists::read_given(line, given);
-    refine(line, g, given, indices, cpe, cpp, counts, inks);
-    measure(line, g, given);
-}
-
-// A call finds each cell of every buffer set.
-fn call(text: &[u8]) {
-    let mut given = [255u8; 4096];
-    let mut indices = [255u8; 1024];
-    let mut cpe = [-1.0f64; 1024];
-    let mut cpp = [-1.0f64; 8500];
-    let mut counts = [4294967295u32; 1024];
-    let mut inks = [-1.0f64; 1024];
-    call_in(
-        text,
-        &mut given,
-        &mut indices,
-        &mut cpe,
-        &mut cpp,
-        &mut counts,
-        &mut inks,
-    );
-}
 
 // A letter that tells the lines of a list apart: the first, or of word and work the last.
 fn kind(line: &[u8]) -> u8 {
@@ -163,7 +18,7 @@ fn kind(line: &[u8]) -> u8 {
 }
 
 // The answer is at the buffers' lifetime: they are lent for good, and nothing is owed of their lengths.
-fn calls<'a>(
+fn list_in<'a>(
     text: &[u8],
     given: &'a mut [u8],
     cpe: &'a mut [f64],
@@ -183,8 +38,8 @@ fn calls<'a>(
         at = end + 1;
         let kind = kind(line);
         if kind == b'o' {
-            let g = lists::read_given(line, given);
-            lists::open(
+            let g = given::read_given(line, given);
+            opens::open(
                 line,
                 g,
                 given,
@@ -234,7 +89,7 @@ fn list(text: &[u8]) {
     let mut record = [0xffff_ffff_ffff_ffffu64; 16];
     let mut copy_cpe = [-1.0f64; 3072];
     let mut copy_indices = [255u8; 1024];
-    calls(
+    list_in(
         text,
         &mut given,
         &mut cpe,
@@ -278,7 +133,7 @@ fn all_lists(text: &[u8]) {
         let part = &text[at..end];
         at = end;
         if lines::byte_at(part, 0) == b'c' {
-            call(part);
+            calls::call(part);
         } else {
             list(part);
         }

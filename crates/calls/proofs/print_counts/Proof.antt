@@ -3,8 +3,8 @@ use mathlib.Core.Path.{_≡_}
 use Prim.Native.Nat.{_-_}
 use lib.ListN.{length}
 use borrow.Author.Needs.{needs}
-use Rattle.replay.proofs.print_counts.Statement.{statement}
-use Rattle.replay.proofs.print_counts.Tie as tie
+use Rattle.calls.proofs.print_counts.Statement.{statement}
+use Rattle.calls.proofs.print_counts.Tie as tie
 
 abbrev Inv-loop : tie.InvT-loop
 Inv-loop counts passes pass₀ pass-end pass = pass-end ≡ length counts
