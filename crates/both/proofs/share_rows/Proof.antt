@@ -34,7 +34,7 @@ share-row-requires c κs =
     let start = first .before .before .before .before in
     let a = start .args in
     let i = turn .loop .inv in
-    line-fits (a .k) (a .w) (a .m) (a .n) (a .s) _ _ (start .pre .1 .1) (i .4 (c .before .if2 .taken)) _ _ (omega (arith, i .2, start .pre .1 .0)) (start .pre .0 .room)
+    line-fits (a .k) (a .w) (a .m) (a .n) (a .s) (turn .loop .y) (turn .loop .l) (start .pre .1 .1) (i .4 (c .before .if2 .taken)) _ _ (omega (arith, i .2, start .pre .1 .0)) (start .pre .0 .room)
 
 line-below-requires : tie.Need-line-below-requires Inv-loop μ-loop
 line-below-requires c κs =
@@ -44,7 +44,7 @@ line-below-requires c κs =
     let start = first .before .before .before .before in
     let a = start .args in
     let p = start .pre .1 .1 in
-    (steps (a .k) (a .w) (a .m) (a .s .common) (start .pre .0 .most) (p .by-one), line-low (a .k) (a .w) (a .m) (a .n) (a .s) _ _ p (turn .loop .inv .4 (test .if2 .taken)))
+    (steps (a .k) (a .w) (a .m) (a .s .common) (start .pre .0 .most) (p .by-one), line-low (a .k) (a .w) (a .m) (a .n) (a .s) (turn .loop .y) (turn .loop .l) p (turn .loop .inv .4 (test .if2 .taken)))
 
 -- after a row: the test, the turn's start, the function's
 abbrev test : tie.After-line-below Inv-loop μ-loop → tie.Then2 Inv-loop μ-loop
@@ -72,12 +72,13 @@ loop-again c =
     let p = start c .pre .1 .1 in
     let k = start c .pre .0 in
     let i = turn c .loop .inv in
+    let l = turn c .loop .y in
     let r = i .4 (test c .if2 .taken) in (
       omega (arith, i .0),
       omega (arith, test c .if2 .taken),
-      search needs,
-      rw (fromTo-more _ _ _ _ (i .0), ← i .3, ← line-is (a .k) (a .w) (a .m) (a .n) (a .s) _ _ p r (a .channels) (a .cpp .now)) (c .before .before .before .share-row .ensures),
-      λ h. rw (c .line-below .ensures) (lined-below (a .k) (a .w) (a .m) (a .n) (a .s) _ _ p r (k .most) (omega (arith, k .room, k .all)) (i .0) h),
+      c .before .before .before .share-row .kept .0 ∙ i .2,
+      rw (fromTo-more (a .s .common .y0) l (shareRow (a .channels) (a .cpp .now) (a .k) (a .w) (a .m) (a .n) (a .s)) (a .cpe .now) (i .0), ← i .3, ← line-is (a .k) (a .w) (a .m) (a .n) (a .s) l (turn c .loop .l) p r (a .channels) (a .cpp .now)) (c .before .before .before .share-row .ensures),
+      λ h. rw (c .line-below .ensures) (lined-below (a .k) (a .w) (a .m) (a .n) (a .s) l (turn c .loop .l) p r (k .most) (omega (arith, k .room, k .all)) (i .0) h),
     )
 
 same-length : tie.Need-same-length Inv-loop μ-loop
