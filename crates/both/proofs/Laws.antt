@@ -6,11 +6,9 @@ use mathlib.Core.Path.{_≡_, refl, sym, ap, _∙_}
 use mathlib.Core.Logic.{_⊎_, inl, inr, ⊎-elim}
 use mathlib.Core.Bool.{Bool, true, false, not, _&&_}
 use mathlib.Core.List.{List}
-use lib.ListN.{length, getD, drop, length-drop}
-use lib.Seq.{getD-take, getD-drop, length-take-le}
+use lib.ListN.{length, getD}
 use lib.Ieee.{Float, nan}
 use borrow.Author.Tests.{lt-ltb, le-ltb, not-true}
-use borrow.Rule.Slice.PartMut.{midOf, putMid}
 use Rattle.base.specs.declared.Rect.{Rect}
 use Rattle.base.specs.Loop.{upTo, fromTo}
 use Rattle.base.specs.Grid.{area, place, Inside, Within, cell}
@@ -20,19 +18,22 @@ use Rattle.base.proofs.LoopLaws.{fromTo-keeps, upTo-same}
 use Rattle.base.proofs.GridLaws.{ext-cell}
 use Rattle.color.specs.declared.YyCxCz.{YyCxCz}
 use Rattle.cpp.specs.declared.Kernel2D.{Kernel2D}
-use Rattle.sweep.specs.declared.Channels.{Channels}
-use Rattle.sweep.specs.declared.Channels.the-variants.{Luminance, Chrominance}
+use Rattle.spans.specs.declared.Channels.{Channels}
+use Rattle.spans.specs.declared.Channels.the-variants.{Luminance, Chrominance}
+use Rattle.spans.specs.declared.Span.{Span}
+use Rattle.spans.specs.Add.{addAt}
+use Rattle.spans.specs.Spans.{spanOf, pairSpan, Fits}
+use Rattle.spans.proofs.Laws.{length-addAt}
 use Rattle.sweep.specs.declared.Source.{Source}
-use Rattle.sweep.specs.declared.Span.{Span}
-use Rattle.sweep.specs.Sweep.{Centred, first, past, footprintOf, addAt, sweepPixel, sweepOf}
-use Rattle.sweep.specs.Part.{Part, RowSpan, Fits, Steps, pixelOf, rowOf, partOf}
-use Rattle.sweep.proofs.Laws.{Axis, axis, whole-part, length-addAt, Local, addAt-part, row-is, pixel-is, span-is, below-is}
+use Rattle.sweep.specs.Sweep.{Centred, first, past, footprintOf, sweepPixel, sweepOf}
+use Rattle.sweep.specs.Part.{Part, RowSpan, Steps, pixelOf, rowOf, partOf}
+use Rattle.sweep.proofs.Laws.{Axis, axis, whole-part, pixel-is, span-is, below-is}
 use Rattle.sweep.proofs.Point.{has, has-is, has-yes, has-not, no-true, on, on-idle, Sized, Acts, Rows, acts-then, rows-then, row-of, rows-at, acts, there, sweep-at, sized-sweep, footprint-within}
 use Rattle.both.specs.declared.Range.{Range}
 use Rattle.both.specs.declared.Shared.{Shared}
 use Rattle.both.specs.declared.Line.{Line}
 use Rattle.both.specs.declared.Rest.{Rest}
-use Rattle.both.specs.Both.{addPairs, pairRow, shareRow, shareOf, pairSpan, lineOf, lineBelow, loneOf, commonOf, aloneOf, Shares, Lined, LineFits, Twins}
+use Rattle.both.specs.Both.{pairRow, shareRow, shareOf, lineOf, lineBelow, loneOf, commonOf, aloneOf, Shares, Lined, LineFits, Twins}
 
 -- ---- along one axis: two ranges of neighbours
 
@@ -248,53 +249,6 @@ module _ (k : Kernel2D) (W : Rect) (m n : Source) (t : Twins W m n) where
 
   pub two-rows : Part k W n (aloneOf G F (commonOf F G) .rows)
   two-rows = rows-part k W n G F two-part two-one one-two (commonOf F G)
-
--- ---- a row that both reach: what is added to its lent part is added to `cpe`
-
-pairs : (h : Channels) (a b : YyCxCz) (kernel other : List Float) → Local (λ i j t. addAt h b (getD other i nan) j (addAt h a (getD kernel i nan) j t))
-pairs h a b kernel other = record {
-  keeps = λ i j t. length-addAt h b (getD other i nan) j _ ∙ length-addAt h a (getD kernel i nan) j t;
-  in-part = λ d n xs l i j t e.
-      ap (λ (g : List Float). addAt h b (getD other i nan) (d + j) g) (addAt-part d n xs l h a (getD kernel i nan) j t e)
-      ∙ addAt-part d n xs l h b (getD other i nan) j _ (omega (arith, e, length-addAt h a (getD kernel i nan) j t));
-}
-
--- a part lent by its ends
-pub lent : (b n : ℕ) (l : List Float) → b + n ≤ length l → length (midOf b (b + n - b) l) ≡ n
-lent b n l h =
-    let e : b + n - b ≡ n = omega arith in
-    rw e (length-take-le n (drop b l) (omega (arith, length-drop b l)))
-
--- value i of a part lent by its ends
-lent-at : (b n i : ℕ) (l : List Float) → i < n → getD (midOf b (b + n - b) l) i nan ≡ getD l (b + i) nan
-lent-at b n i l h =
-    let e : b + n - b ≡ n = omega arith in
-    rw e (getD-take n (drop b l) i nan h ∙ getD-drop b l i nan)
-
-module _ (h : Channels) (a b : YyCxCz) (cpp : List Float) (s o : Span) where
-  abbrev one : List Float
-  one = midOf (s .from) (s .from + s .pixels - s .from) cpp
-
-  abbrev two : List Float
-  two = midOf (o .from) (o .from + s .pixels - o .from) cpp
-
-  -- what is done to pixel i of the span
-  abbrev pixel : ℕ → List Float → List Float
-  pixel i t = addAt h b (getD cpp (o .from + i) nan) (s .at + 3 * i) (addAt h a (getD cpp (s .from + i) nan) (s .at + 3 * i) t)
-
-  from-first : (i : ℕ) (t : List Float) → pixel (0 + i) t ≡ pixel i t
-  from-first i t = let e : 0 + i ≡ i = omega arith in rw e
-
-  turn : (i : ℕ) → i < s .pixels → (t : List Float) → pixel (0 + i) t ≡ addAt h b (getD two i nan) (s .at + 3 * i) (addAt h a (getD one i nan) (s .at + 3 * i) t)
-  turn i l t = from-first i t ∙ rw (lent-at (s .from) (s .pixels) i cpp l, lent-at (o .from) (s .pixels) i cpp l)
-
-  pub pair-span-is : (f : List Float) → Fits (length f) (length cpp) s → (last : List Float) →
-      last ≡ addPairs h a b one two (length one) (midOf (s .at) (s .at + 3 * s .pixels - s .at) f) → putMid (s .at) (s .at + 3 * s .pixels - s .at) f last ≡ pairSpan h a b cpp s o f
-  unfolding addPairs pairSpan
-  pair-span-is f z last e =
-      rw (e, lent (s .from) (s .pixels) cpp (z .in-cpp))
-      (row-is (λ i j t. addAt h b (getD two i nan) j (addAt h a (getD one i nan) j t)) (pairs h a b one two) pixel 0 (s .at) (s .pixels) f turn (z .in-cpe)
-      ∙ upTo-same (s .pixels) (λ i. pixel (0 + i)) pixel f (λ i _ t. from-first i t))
 
 -- ---- row y of a swap where it stands
 

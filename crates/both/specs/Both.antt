@@ -5,27 +5,21 @@ use mathlib.Core.Bool.{cond}
 use mathlib.Core.List.{List}
 use Prim.Native.Nat.{ℕ, _+_, _*_, _<_, _≤_, max, min}
 use lib.Dec.{ltb}
-use lib.ListN.{getD}
-use lib.Ieee.{Float, nan}
+use lib.Ieee.{Float}
 use Rattle.base.specs.declared.Rect.{Rect}
-use Rattle.base.specs.Loop.{upTo, fromTo}
+use Rattle.base.specs.Loop.{fromTo}
 use Rattle.base.specs.Grid.{Inside}
 use Rattle.base.specs.Limits.{maxSide}
 use Rattle.color.specs.declared.YyCxCz.{YyCxCz}
 use Rattle.cpp.specs.declared.Kernel2D.{Kernel2D}
-use Rattle.sweep.specs.declared.Channels.{Channels}
+use Rattle.spans.specs.declared.Channels.{Channels}
 use Rattle.sweep.specs.declared.Source.{Source}
-use Rattle.sweep.specs.Sweep.{addAt}
-use Rattle.sweep.specs.declared.Span.{Span}
-use Rattle.sweep.specs.Part.{Part, RowSpan, Fits, pixelOf, rowOf, spanOf, belowOf}
+use Rattle.spans.specs.Spans.{spanOf, pairSpan, Fits}
+use Rattle.sweep.specs.Part.{Part, RowSpan, pixelOf, rowOf, belowOf}
 use Rattle.both.specs.declared.Range.{Range}
 use Rattle.both.specs.declared.Shared.{Shared}
 use Rattle.both.specs.declared.Line.{Line}
 use Rattle.both.specs.declared.Rest.{Rest}
-
--- the first n pixels of a row grow by a times a row of the kernel and b times another
-unfoldable pub addPairs : Channels → YyCxCz → YyCxCz → List Float → List Float → ℕ → List Float → List Float
-addPairs h a b kernel other n f = upTo (λ i g. addAt h b (getD other i nan) (3 * i) (addAt h a (getD kernel i nan) (3 * i) g)) n f
 
 module _ (h : Channels) (cpp : List Float) (k : Kernel2D) (W : Rect) (m n : Source) where
   -- row y of the part C, by both
@@ -40,10 +34,6 @@ module _ (h : Channels) (cpp : List Float) (k : Kernel2D) (W : Rect) (m n : Sour
   shareOf S f = fromTo (S .common .y0) (S .common .y1) (shareRow S) f
 
 -- ---- the same by where it stands
-
--- each pixel of the span s grows by a times the kernel's value there, then by b times its value along o
-unfoldable pub pairSpan : Channels → YyCxCz → YyCxCz → List Float → Span → Span → List Float → List Float
-pairSpan h a b cpp s o f = upTo (λ i g. addAt h b (getD cpp (o .from + i) nan) (s .at + 3 * i) (addAt h a (getD cpp (s .from + i) nan) (s .at + 3 * i) g)) (s .pixels) f
 
 unfoldable pub lineOf : Channels → YyCxCz → YyCxCz → List Float → Line → List Float → List Float
 lineOf h a b cpp l f = spanOf h b cpp (l .two) (spanOf h a cpp (l .one) (pairSpan h a b cpp (l .common) (l .other) f))

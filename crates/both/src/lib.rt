@@ -3,9 +3,9 @@
 use base::Rect;
 use color::YyCxCz;
 use cpp::Kernel2D;
-use sweep::Channels;
+use spans::Channels;
+use spans::Span;
 use sweep::Source;
-use sweep::Span;
 use tiling::Tiling;
 ghost use mathlib.Core.Path.{_≡_};
 ghost use Prim.Native.Nat.{_+_, _*_, _<_, _≤_};
@@ -13,9 +13,9 @@ ghost use lib.ListN.{length};
 ghost use Rattle.base.specs.Grid.{area};
 ghost use Rattle.base.specs.Limits.{maxPixels, maxRadius, cppChroma, cppLength};
 ghost use Rattle.cpp.specs.Kernel.{KernelFits, lumKernel, chromaKernel};
-ghost use Rattle.sweep.specs.Sweep.{addAt, sweepOf, addKernels};
-ghost use Rattle.sweep.specs.Part.{Fits, Steps};
-ghost use Rattle.both.specs.Both.{addPairs, pairSpan, lineOf, lineBelow, shareOf, loneOf, commonOf, aloneOf, Shares, Lined, LineFits, Twins};
+ghost use Rattle.sweep.specs.Sweep.{sweepOf, addKernels};
+ghost use Rattle.sweep.specs.Part.{Steps};
+ghost use Rattle.both.specs.Both.{lineOf, lineBelow, shareOf, loneOf, commonOf, aloneOf, Shares, Lined, LineFits, Twins};
 
 // Columns or rows from lo up to hi.
 pub struct Range {
@@ -44,73 +44,14 @@ pub struct Rest {
     pub rows: Rect,
 }
 
-// The pixel whose first value is value j grows by a times v, then by b times u.
-fn add_two(cpe: &mut [f64], j: usize, channels: Channels, a: YyCxCz, v: f64, b: YyCxCz, u: f64)
-    requires { ⌜ j + 2 < length (now cpe) ⌝ }
-    ensures { λ _. ⌜ now (cpe .exit) ≡ addAt channels b u j (addAt channels a v j (now (cpe .entry))) ⌝ }
-{
-    sweep::add_at(cpe, j, channels, a, v);
-    sweep::add_at(cpe, j, channels, b, u);
-}
-
-// A row of pixels grows by a times a row of the kernel and b times another.
-fn add_pairs(
-    row: &mut [f64],
-    kernel: &[f64],
-    other: &[f64],
-    channels: Channels,
-    a: YyCxCz,
-    b: YyCxCz,
-)
-    requires { ⌜ (length (now row) ≡ 3 * length (now kernel)) × (length (now other) ≡ length (now kernel)) ⌝ }
-    ensures { λ _. ⌜ now (row .exit) ≡ addPairs channels a b (now (kernel .entry)) (now (other .entry)) (length (now (kernel .entry))) (now (row .entry)) ⌝ }
-{
-    let mut i = 0;
-    while i < kernel.len() {
-        add_two(row, 3 * i, channels, a, kernel[i], b, other[i]);
-        i += 1;
-    }
-}
-
-// A span that both kernels reach: s by the one, o by the other.
-fn pair_row(
-    cpe: &mut [f64],
-    cpp: &[f64],
-    channels: Channels,
-    a: YyCxCz,
-    b: YyCxCz,
-    s: Span,
-    o: Span,
-)
-    requires { ⌜ Fits (length (now cpe)) (length (now cpp)) s ⌝ }
-    requires { ⌜ Fits (length (now cpe)) (length (now cpp)) o ⌝ }
-    requires { ⌜ o .pixels ≡ s .pixels ⌝ }
-    ensures { λ _. ⌜ now (cpe .exit) ≡ pairSpan channels a b (now (cpp .entry)) s o (now (cpe .entry)) ⌝ }
-{
-    let at = s.at;
-    let at_end = at + 3 * s.pixels;
-    let from = s.from;
-    let from_end = from + s.pixels;
-    let other = o.from;
-    let other_end = other + s.pixels;
-    add_pairs(
-        &mut cpe[at..at_end],
-        &cpp[from..from_end],
-        &cpp[other..other_end],
-        channels,
-        a,
-        b,
-    );
-}
-
 // A row of a swap: the pixels that both kernels reach, then the column of the one, then that of the other.
 fn share_row(cpe: &mut [f64], cpp: &[f64], channels: Channels, a: YyCxCz, b: YyCxCz, l: Line)
     requires { ⌜ LineFits (length (now cpe)) (length (now cpp)) l ⌝ }
     ensures { λ _. ⌜ now (cpe .exit) ≡ lineOf channels a b (now (cpp .entry)) l (now (cpe .entry)) ⌝ }
 {
-    pair_row(cpe, cpp, channels, a, b, l.common, l.other);
-    sweep::span_pixel(cpe, cpp, channels, a, l.one);
-    sweep::span_pixel(cpe, cpp, channels, b, l.two);
+    spans::add_spans(cpe, cpp, channels, a, b, l.common, l.other);
+    spans::add_pixel(cpe, cpp, channels, a, l.one);
+    spans::add_pixel(cpe, cpp, channels, b, l.two);
 }
 
 // Where row y of a swap stands.

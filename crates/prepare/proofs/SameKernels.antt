@@ -28,9 +28,10 @@ use Rattle.neighbour.proofs.Laws.{Beyond, near-by}
 use Rattle.pins.specs.Pins.{pinnedAt}
 use Rattle.cpp.specs.declared.Kernel2D.{Kernel2D}
 use Rattle.cpp.specs.Kernel.{lumKernel, chromaKernel, size, kernelAt}
-use Rattle.sweep.specs.declared.Channels.{Channels}
-use Rattle.sweep.specs.declared.Channels.the-variants.{Luminance, Chrominance}
-use Rattle.sweep.specs.Sweep.{addAt, sweepPixel, sweepRow, sweepOf, addKernels}
+use Rattle.spans.specs.declared.Channels.{Channels}
+use Rattle.spans.specs.declared.Channels.the-variants.{Luminance, Chrominance}
+use Rattle.spans.specs.Add.{addAt}
+use Rattle.sweep.specs.Sweep.{sweepPixel, sweepRow, sweepOf, addKernels}
 use Rattle.search.specs.declared.Best.{Best}
 use Rattle.search.specs.declared.Site.{Site}
 use Rattle.search.specs.declared.Move.{Move}

@@ -18,10 +18,11 @@ use Rattle.color.specs.declared.YyCxCz.{YyCxCz}
 use Rattle.tiling.specs.declared.Tiling.{Tiling}
 use Rattle.cpp.specs.declared.Kernel2D.{Kernel2D}
 use Rattle.cpp.specs.Kernel.{lumKernel, chromaKernel, kernelAt}
-use Rattle.sweep.specs.declared.Channels.{Channels}
-use Rattle.sweep.specs.declared.Channels.the-variants.{Luminance, Chrominance}
-use Rattle.sweep.specs.Sweep.{grow, addAt, first, past, footprintOf, sweepPixel, sweepRow, sweepOf, addKernels}
-use Rattle.sweep.proofs.Laws.{length-grow, length-addAt}
+use Rattle.spans.specs.declared.Channels.{Channels}
+use Rattle.spans.specs.declared.Channels.the-variants.{Luminance, Chrominance}
+use Rattle.spans.specs.Add.{grow, addAt}
+use Rattle.sweep.specs.Sweep.{first, past, footprintOf, sweepPixel, sweepRow, sweepOf, addKernels}
+use Rattle.spans.proofs.Laws.{length-grow, length-addAt}
 
 -- ---- the words of the laws
 

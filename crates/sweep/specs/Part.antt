@@ -2,19 +2,17 @@
 use mathlib.Core.Path.{_≡_}
 use mathlib.Core.List.{List}
 use Prim.Native.Nat.{ℕ, _+_, _-_, _*_, _≤_}
-use lib.ListN.{getD}
-use lib.Ieee.{Float, nan}
+use lib.Ieee.{Float}
 use Rattle.base.specs.declared.Rect.{Rect}
-use Rattle.base.specs.Loop.{upTo, fromTo}
+use Rattle.base.specs.Loop.{fromTo}
 use Rattle.base.specs.Grid.{area, place}
 use Rattle.base.specs.Limits.{maxSide, maxPixels, maxRadius, cppChroma, cppLength}
-use Rattle.color.specs.declared.YyCxCz.{YyCxCz}
 use Rattle.cpp.specs.declared.Kernel2D.{Kernel2D}
 use Rattle.cpp.specs.Kernel.{kernelPlace}
-use Rattle.sweep.specs.declared.Channels.{Channels}
+use Rattle.spans.specs.declared.Channels.{Channels}
 use Rattle.sweep.specs.declared.Source.{Source}
-use Rattle.sweep.specs.declared.Span.{Span}
-use Rattle.sweep.specs.Sweep.{addAt, sweepPixel}
+use Rattle.spans.specs.declared.Span.{Span}
+use Rattle.sweep.specs.Sweep.{sweepPixel}
 
 module _ (h : Channels) (cpp : List Float) (k : Kernel2D) (W : Rect) where
   -- pixel (x, y), by the kernel of one source
@@ -56,18 +54,9 @@ pub record RowSpan (k : Kernel2D) (W : Rect) (m : Source) (C : Rect) (y : ℕ) (
 
 -- ---- a row by where it stands
 
--- each pixel of a span grows by a times the kernel's value there
-unfoldable pub spanOf : Channels → YyCxCz → List Float → Span → List Float → List Float
-spanOf h a cpp s f = upTo (λ i. addAt h a (getD cpp (s .from + i) nan) (s .at + 3 * i)) (s .pixels) f
-
 -- the span a row further down, in `cpe` and in the kernel
 abbrev pub belowOf : Kernel2D → Rect → Span → Span
 belowOf k W s = record { at = s .at + 3 * (W .x1 - W .x0); pixels = s .pixels; from = s .from + (2 * k .radius + 1) }
-
--- a span lies in so many values of `cpe` and of the kernel store
-pub record Fits (cpe cpp : ℕ) (s : Span) : Type 0 where
-  pub in-cpe : s .at + 3 * s .pixels ≤ cpe
-  pub in-cpp : s .from + s .pixels ≤ cpp
 
 -- rows of a window and of a kernel within the limits
 pub record Steps (k : Kernel2D) (W : Rect) : Type 0 where

@@ -3,32 +3,18 @@
 use mathlib.Core.Path.{_≡_}
 use mathlib.Core.List.{List}
 use Prim.Native.Nat.{ℕ, _+_, _-_, _*_, _<_, _≤_, max, min}
-use lib.ListN.{getD, set}
-use lib.Ieee.{Float, nan}
+use lib.Ieee.{Float}
 use Rattle.base.specs.declared.Rect.{Rect}
-use Rattle.base.specs.Loop.{upTo, fromTo}
+use Rattle.base.specs.Loop.{fromTo}
 use Rattle.base.specs.Grid.{place, Inside}
 use Rattle.base.specs.Limits.{maxSide}
-use Rattle.base.specs.F64.{_+f_, _*f_}
 use Rattle.color.specs.declared.YyCxCz.{YyCxCz}
 use Rattle.tiling.specs.declared.Tiling.{Tiling}
-use Rattle.sweep.specs.declared.Channels.{Channels}
-use Rattle.sweep.specs.declared.Channels.the-variants.{Luminance, Chrominance}
+use Rattle.spans.specs.declared.Channels.{Channels}
+use Rattle.spans.specs.declared.Channels.the-variants.{Luminance, Chrominance}
+use Rattle.spans.specs.Add.{addAt}
 use Rattle.cpp.specs.declared.Kernel2D.{Kernel2D}
 use Rattle.cpp.specs.Kernel.{lumKernel, chromaKernel, kernelAt}
-
--- value j of a list grows by v; the list has it, as a pixel of the window has its values
-unfoldable pub grow : ℕ → Float → List Float → List Float
-grow j v f = set f j (getD f j nan +f v)
-
--- the pixel whose first value is value j grows by a times v: Yy by the luminance kernel, Cx and then Cz by the chrominance kernel
-unfoldable pub addAt : Channels → YyCxCz → Float → ℕ → List Float → List Float
-addAt Luminance a v j f = grow j (a .yy *f v) f
-addAt Chrominance a v j f = grow (j + 2) (a .cz *f v) (grow (j + 1) (a .cx *f v) f)
-
--- the first n pixels of a row grow by a times the first n values of a row of the kernel, which has them
-unfoldable pub addPixels : Channels → YyCxCz → List Float → ℕ → List Float → List Float
-addPixels channels a kernel n f = upTo (λ i. addAt channels a (getD kernel i nan) (3 * i)) n f
 
 -- the kernel's first column and row inside the window, and one past its last, along one axis: the centre m, the radius r, the window from a up to b
 abbrev pub first : ℕ → ℕ → ℕ → ℕ

@@ -22,9 +22,10 @@ use Rattle.neighbour.proofs.Laws.{Beyond, near-by}
 use Rattle.pins.specs.Pins.{pinnedAt}
 use Rattle.cpp.specs.declared.Kernel2D.{Kernel2D}
 use Rattle.cpp.specs.Kernel.{lumKernel, chromaKernel}
-use Rattle.sweep.specs.declared.Channels.{Channels}
-use Rattle.sweep.specs.declared.Channels.the-variants.{Luminance, Chrominance}
-use Rattle.sweep.specs.Sweep.{grow, addAt, sweepPixel, sweepRow, sweepOf, addKernels}
+use Rattle.spans.specs.declared.Channels.{Channels}
+use Rattle.spans.specs.declared.Channels.the-variants.{Luminance, Chrominance}
+use Rattle.spans.specs.Add.{grow, addAt}
+use Rattle.sweep.specs.Sweep.{sweepPixel, sweepRow, sweepOf, addKernels}
 use Rattle.sweep.proofs.Point.{grow-put}
 use Rattle.search.specs.declared.Best.{Best}
 use Rattle.search.specs.declared.Move.{Move}

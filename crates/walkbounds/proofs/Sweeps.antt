@@ -14,9 +14,10 @@ use Rattle.color.specs.Values.{lessOf, negOf}
 use Rattle.neighbour.specs.declared.Adjacent.the-variants.{Pixel}
 use Rattle.cpp.specs.declared.Kernel2D.{Kernel2D}
 use Rattle.cpp.specs.Kernel.{lumKernel, chromaKernel}
-use Rattle.sweep.specs.declared.Channels.{Channels}
-use Rattle.sweep.specs.declared.Channels.the-variants.{Luminance, Chrominance}
-use Rattle.sweep.specs.Sweep.{grow, addAt, first, past, sweepPixel, sweepRow, sweepOf, addKernels}
+use Rattle.spans.specs.declared.Channels.{Channels}
+use Rattle.spans.specs.declared.Channels.the-variants.{Luminance, Chrominance}
+use Rattle.spans.specs.Add.{grow, addAt}
+use Rattle.sweep.specs.Sweep.{first, past, sweepPixel, sweepRow, sweepOf, addKernels}
 use Rattle.search.specs.declared.Move.{Move}
 use Rattle.search.specs.declared.Move.the-variants.{Stay, Toggle, Swap}
 use Rattle.search.specs.Shared.{Shared, inkAt, indexAt, Named, Held}

@@ -3,7 +3,7 @@ use mathlib.Core.Path.{_≡_, sym, ap, _∙_}
 use mathlib.Core.List.{List}
 use lib.Ieee.{Float}
 use Rattle.cpp.specs.Kernel.{lumKernel, chromaKernel}
-use Rattle.sweep.specs.declared.Channels.the-variants.{Luminance, Chrominance}
+use Rattle.spans.specs.declared.Channels.the-variants.{Luminance, Chrominance}
 use Rattle.sweep.specs.Sweep.{sweepOf, addKernels}
 use Rattle.sweep.proofs.Point.{sized-sweep}
 use Rattle.both.proofs.Laws.{either-first}

@@ -1,9 +1,9 @@
--- `sweep::span_pixel` meets its contract: one pixel, or none. Assumes nothing.
+-- `spans::add_pixel` meets its contract: one pixel, or none. Assumes nothing.
 use native.Mathlib.Omega.{arith}
-use Rattle.sweep.proofs.Laws.{span-one, span-none}
+use Rattle.spans.proofs.Laws.{span-one, span-none}
 use borrow.Author.Needs.{needs}
-use Rattle.sweep.proofs.span_pixel.Statement.{statement}
-use Rattle.sweep.proofs.span_pixel.Tie as tie
+use Rattle.spans.proofs.add_pixel.Statement.{statement}
+use Rattle.spans.proofs.add_pixel.Tie as tie
 
 mul-add-at : tie.Need-mul-add-at
 mul-add-at c = search needs
@@ -29,7 +29,7 @@ returns-2 c =
     let a = c .before .before .before .before .args in
     span-none (a .channels) (a .a) (a .cpp .now) (a .s) (a .cpe .now) (omega (arith, c .if1 .left))
 
-pub span-pixel-spec : {M : Type 1} → statement M
-span-pixel-spec =
+pub add-pixel-spec : {M : Type 1} → statement M
+add-pixel-spec =
     tie.close
     (tie.spec mul-add-at shared-slice-read-add-at add-at-requires same-length returns returns-2)

@@ -1,8 +1,8 @@
--- `sweep::add_at` meets its contract: each arm is one of the definition's two. Assumes nothing.
-use Rattle.sweep.specs.Sweep.{addAt}
+-- `spans::add_at` meets its contract: each arm is one of the definition's two. Assumes nothing.
+use Rattle.spans.specs.Add.{addAt}
 use borrow.Author.Needs.{needs}
-use Rattle.sweep.proofs.add_at.Statement.{statement}
-use Rattle.sweep.proofs.add_at.Tie as tie
+use Rattle.spans.proofs.add_at.Statement.{statement}
+use Rattle.spans.proofs.add_at.Tie as tie
 
 enum-told : tie.Need-enum-told
 enum-told c = search needs

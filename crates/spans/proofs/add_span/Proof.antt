@@ -1,12 +1,8 @@
--- `sweep::sweep_row` meets its contract: what is added to the lent part is added to the row, by `sweep-row-is`. Assumes nothing.
-use native.Mathlib.Omega.{arith}
-use Rattle.sweep.proofs.Laws.{sweep-row-is}
+-- `spans::add_span` meets its contract: what is added to the lent part is added to the span, by `span-row-is`. Assumes nothing.
+use Rattle.spans.proofs.Laws.{span-row-is}
 use borrow.Author.Needs.{needs}
-use Rattle.sweep.proofs.sweep_row.Statement.{statement}
-use Rattle.sweep.proofs.sweep_row.Tie as tie
-
-part-at-requires : tie.Need-part-at-requires
-part-at-requires c κs = search needs
+use Rattle.spans.proofs.add_span.Statement.{statement}
+use Rattle.spans.proofs.add_span.Tie as tie
 
 mul-at-end : tie.Need-mul-at-end
 mul-at-end c = search needs
@@ -50,17 +46,14 @@ same-length c = search needs
 returns : tie.Need-returns
 returns c =
     let earlier = c .before .before .before .before .before in
-    let o = earlier .before .before in
-    let s = o .before .before .before in
-    let a = s .args in
-    sweep-row-is (a .channels) (a .cpp .now) (a .k) (a .w) (a .m) (a .c) (a .y) (s .pre .1 .1 .0) (o .part-at .result) (o .part-at .ensures)
-    (a .cpe .now) (s .pre .1 .0) (s .pre .0 .room) (c .before .before .add-row .last .0) (c .before .before .add-row .ensures)
+    let start = earlier .before .before .before .before in
+    let a = start .args in
+    span-row-is (a .channels) (a .a) (a .cpp .now) (a .s) (a .cpe .now) (start .pre) (c .before .before .add-row .last .0) (c .before .before .add-row .ensures)
 
-pub sweep-row-spec : {M : Type 1} → statement M
-sweep-row-spec =
+pub add-span-spec : {M : Type 1} → statement M
+add-span-spec =
     tie.close
     (tie.spec
-    part-at-requires
     mul-at-end
     add-at-end
     add-from-end

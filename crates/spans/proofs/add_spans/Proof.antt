@@ -1,11 +1,8 @@
--- `both::pair_row` meets its contract: what is added to the lent part is added to the span, by `pair-span-is`. Assumes nothing.
-use mathlib.Core.Path.{sym, ap, _∙_}
-use Prim.Native.Nat.{ℕ, _*_}
-use native.Mathlib.Omega.{arith}
-use Rattle.both.proofs.Laws.{lent, pair-span-is}
+-- `spans::add_spans` meets its contract: what is added to the lent part is added to the span, by `pair-span-is`. Assumes nothing.
+use Rattle.spans.proofs.Laws.{pair-span-is}
 use borrow.Author.Needs.{needs}
-use Rattle.both.proofs.pair_row.Statement.{statement}
-use Rattle.both.proofs.pair_row.Tie as tie
+use Rattle.spans.proofs.add_spans.Statement.{statement}
+use Rattle.spans.proofs.add_spans.Tie as tie
 
 mul-at-end : tie.Need-mul-at-end
 mul-at-end c = search needs
@@ -68,8 +65,8 @@ returns c =
     let a = start .args in
     pair-span-is (a .channels) (a .a) (a .b) (a .cpp .now) (a .s) (a .o) (a .cpe .now) (start .pre .0) (c .before .before .add-pairs .last .0) (c .before .before .add-pairs .ensures)
 
-pub pair-row-spec : {M : Type 1} → statement M
-pair-row-spec =
+pub add-spans-spec : {M : Type 1} → statement M
+add-spans-spec =
     tie.close
     (tie.spec
     mul-at-end

@@ -1,9 +1,9 @@
--- `both::add_pairs` meets its contract: the invariant is the fold up to i. Assumes nothing.
+-- `spans::add_pairs` meets its contract: the invariant is the fold up to i. Assumes nothing.
 use Rattle.base.proofs.LoopLaws.{upTo-none, upTo-more}
 use Rattle.color.specs.declared.YyCxCz.{YyCxCz}
-use Rattle.sweep.specs.declared.Channels.{Channels}
-use Rattle.sweep.specs.Sweep.{addAt}
-use Rattle.both.specs.Both.{addPairs}
+use Rattle.spans.specs.declared.Channels.{Channels}
+use Rattle.spans.specs.Add.{addAt}
+use Rattle.spans.specs.Spans.{addPairs}
 use mathlib.Core.Path.{_≡_, sym}
 use mathlib.Core.List.{List}
 use Prim.Native.Nat.{ℕ, _+_, _-_, _*_, _≤_}
@@ -11,8 +11,8 @@ use native.Mathlib.Omega.{arith}
 use lib.ListN.{length, getD}
 use lib.Ieee.{Float, nan}
 use borrow.Author.Needs.{needs}
-use Rattle.both.proofs.add_pairs.Statement.{statement}
-use Rattle.both.proofs.add_pairs.Tie as tie
+use Rattle.spans.proofs.add_pairs.Statement.{statement}
+use Rattle.spans.proofs.add_pairs.Tie as tie
 
 abbrev Inv-loop : tie.InvT-loop
 Inv-loop row₀ kernel other channels a b i₀ row i = (i ≤ length kernel) × (length row ≡ length row₀) × (row ≡ addPairs channels a b kernel other i row₀)

@@ -1,9 +1,9 @@
--- `sweep::grow_by` meets its contract: one store. Assumes nothing.
+-- `spans::grow_by` meets its contract: one store. Assumes nothing.
 use mathlib.Core.Path.{refl}
-use Rattle.sweep.specs.Sweep.{grow}
+use Rattle.spans.specs.Add.{grow}
 use borrow.Author.Needs.{needs}
-use Rattle.sweep.proofs.grow_by.Statement.{statement}
-use Rattle.sweep.proofs.grow_by.Tie as tie
+use Rattle.spans.proofs.grow_by.Statement.{statement}
+use Rattle.spans.proofs.grow_by.Tie as tie
 
 mul-cpe : tie.Need-mul-cpe
 mul-cpe c = search needs

@@ -1,8 +1,8 @@
--- `both::add_two` meets its contract: one after the other. Assumes nothing.
+-- `spans::add_two` meets its contract: one after the other. Assumes nothing.
 use mathlib.Core.Path.{_≡_}
 use borrow.Author.Needs.{needs}
-use Rattle.both.proofs.add_two.Statement.{statement}
-use Rattle.both.proofs.add_two.Tie as tie
+use Rattle.spans.proofs.add_two.Statement.{statement}
+use Rattle.spans.proofs.add_two.Tie as tie
 
 add-at-requires : tie.Need-add-at-requires
 add-at-requires c κs = search needs

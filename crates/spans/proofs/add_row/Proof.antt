@@ -1,8 +1,9 @@
--- `sweep::add_row` meets its contract: the invariant is the fold up to i. Assumes nothing.
+-- `spans::add_row` meets its contract: the invariant is the fold up to i. Assumes nothing.
 use Rattle.base.proofs.LoopLaws.{upTo-none, upTo-more}
 use Rattle.color.specs.declared.YyCxCz.{YyCxCz}
-use Rattle.sweep.specs.declared.Channels.{Channels}
-use Rattle.sweep.specs.Sweep.{addAt, addPixels}
+use Rattle.spans.specs.declared.Channels.{Channels}
+use Rattle.spans.specs.Add.{addAt}
+use Rattle.spans.specs.Spans.{addPixels}
 use mathlib.Core.Path.{_≡_, sym}
 use mathlib.Core.List.{List}
 use Prim.Native.Nat.{ℕ, _+_, _-_, _*_, _≤_}
@@ -10,8 +11,8 @@ use native.Mathlib.Omega.{arith}
 use lib.ListN.{length, getD}
 use lib.Ieee.{Float, nan}
 use borrow.Author.Needs.{needs}
-use Rattle.sweep.proofs.add_row.Statement.{statement}
-use Rattle.sweep.proofs.add_row.Tie as tie
+use Rattle.spans.proofs.add_row.Statement.{statement}
+use Rattle.spans.proofs.add_row.Tie as tie
 
 abbrev Inv-loop : tie.InvT-loop
 Inv-loop row₀ kernel channels a i₀ row i = (i ≤ length kernel) × (length row ≡ length row₀) × (row ≡ addPixels channels a kernel i row₀)
