@@ -64,17 +64,14 @@ blur-back blur taps r e i j p q =
 
 -- ---- blurs with the same values give the same error
 
-in-reach : (o R x w : ℕ) → o - R ≤ x → x < min w (o + 1) → o - x ≤ R
-in-reach o R x w low high = omega (arith, low, high)
-
 module _ (F : Frame) (G : Scene) (b b′ : List Float) (c : ℕ) (same : (i j : ℕ) → i ≤ 2 * F .radius → j ≤ 2 * F .radius → entry b (F .radius) i j ≡ entry b′ (F .radius) i j) where
   blurred-same : (ox oy : ℕ) → blurredAt F G b c ox oy ≡ blurredAt F G b′ c ox oy
   unfolding blurredAt blurRow blurTerm
   blurred-same ox oy =
       let R = 2 * F .radius in
-      fromTo-same (oy - R) (min (F .height) (oy + 1)) _ _ f0
-      (λ y low high s. fromTo-same (ox - R) (min (F .width) (ox + 1)) _ _ s
-      (λ x left right t. rw (same (ox - x) (oy - y) (in-reach ox R x (F .width) left right) (in-reach oy R y (F .height) low high))))
+      fromTo-same _ _ _ _ f0
+      (λ y low high s. fromTo-same _ _ _ _ s
+      (λ x left right t. rw (same (ox - x) (oy - y) (omega (arith, left, right)) (omega (arith, low, high)))))
 
   row-same : (oy : ℕ) → rowError F G b c oy ≡ rowError F G b′ c oy
   unfolding rowError squareTerm
@@ -85,6 +82,9 @@ module _ (F : Frame) (G : Scene) (b b′ : List Float) (c : ℕ) (same : (i j : 
   error-same = upTo-same (F .height + 2 * F .radius) (λ oy s. s +f rowError F G b c oy) (λ oy s. s +f rowError F G b′ c oy) f0 (λ oy h s. rw (row-same oy))
 
 -- ---- a block
+
+in-reach : (o R x w : ℕ) → o - R ≤ x → x < min w (o + 1) → o - x ≤ R
+in-reach o R x w low high = omega (arith, low, high)
 
 tap-of : (o R x w : ℕ) → o - R ≤ x → x < min w (o + 1) → x + R - o ≡ R - (o - x)
 tap-of o R x w low high = omega (arith, low, high)
@@ -102,10 +102,10 @@ module _ (W : View) (G : Scene) (taps : List Float) (square : length taps ≡ (2
   seen-is x y rows i j =
       let ox = x + j in
       let oy = y + i in
-      fromTo-rel (λ (s t : Float). s ≡ t) (oy - R) (min (F .height) (oy + 0 + 1)) (oy - R) (min (F .height) (oy + 1)) _ (blurRow F G (mirrorOf taps) (W .channel) ox oy) refl (omega arith)
+      fromTo-rel (λ (s t : Float). s ≡ t) (oy - R) (min (F .height) (oy + 0 + 1)) _ _ _ (blurRow F G (mirrorOf taps) (W .channel) ox oy) refl (omega arith)
       (λ v low high s t e.
       let below : v < min (F .height) (oy + 1) = omega (arith, high) in
-      rw e (fromTo-rel (λ (p q : Float). p ≡ q) (ox - R) (min (F .width) (ox + 0 + 1)) (ox - R) (min (F .width) (ox + 1)) _ (blurTerm F G (mirrorOf taps) (W .channel) ox oy v) refl (omega arith)
+      rw e (fromTo-rel (λ (p q : Float). p ≡ q) (ox - R) (min (F .width) (ox + 0 + 1)) _ _ _ (blurTerm F G (mirrorOf taps) (W .channel) ox oy v) refl (omega arith)
       (λ u left right p q d.
       let within : u < min (F .width) (ox + 1) = omega (arith, right) in
       let side : R + 0 + 1 ≡ R + 1 = omega arith in
