@@ -18,7 +18,8 @@ use Rattle.sweep.specs.Sweep.{grow, addAt, sweepPixel, sweepRow, sweepOf, addKe
 use Rattle.search.specs.Search.{centreOf, besideOf, centres, gaps, toggleCost, swapCost, tryToggle, toggles, partnerOf, trySwap, swaps, evaluateOf}
 use Rattle.moves.specs.Moves.{movedIndices, movedCpe}
 use Rattle.tile.specs.Tile.{applied, visitOf, refineRow, refineTile}
-use Rattle.input.specs.Input.{pixelCount, inkCount, firstUnnamed, imageTests, inkTests, inputTests, runTests, openRunTests, openTests}
+use Rattle.fits.specs.Fits.{firstUnnamed}
+use Rattle.input.specs.Input.{pixelCount, inkCount, imageTests, inkTests, inputTests, runTests, openRunTests, openTests}
 use Rattle.error.specs.Error.{channelError, initialError}
 use Rattle.prepare.specs.Prepare.{tilingOf, errorOf}
 use Rattle.job.specs.Record.{pixelsOf, jobShared, radiusFits, recordTests, isDue, stateOf, inState}

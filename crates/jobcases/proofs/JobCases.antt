@@ -25,7 +25,8 @@ use Rattle.moves.specs.Moves.{movedIndices, movedCpe}
 use Rattle.tile.specs.Tile.{State, applied, visitOf, refineRow, refineTile}
 use Rattle.error.specs.Error.{halftoneAt, colourAt, targetAt, errorAt, errorTerm, channelError, initialError}
 use Rattle.field.specs.Field.{correlateTerm, correlateRow, correlateAt, channelKernel, fieldAt, fieldValue, fieldOf}
-use Rattle.input.specs.Input.{pixelCount, inkCount, firstUnnamed, imageTests, inkTests, inputTests, runTests, openRunTests, openTests}
+use Rattle.fits.specs.Fits.{firstUnnamed}
+use Rattle.input.specs.Input.{pixelCount, inkCount, imageTests, inkTests, inputTests, runTests, openRunTests, openTests}
 use Rattle.prepare.specs.Prepare.{tilingOf, inksOf, cppOf, sceneOf, cpeOf, errorOf}
 use Rattle.job.specs.Record.{pixelsOf, jobShared, radiusFits, recordTests, isDue, stateOf, inState}
 use Rattle.job.specs.Words.{runTest, wordsTests, decode, wordsWith, encode, wordOver, rewritten}

@@ -13,7 +13,8 @@ ghost use Rattle.base.specs.F64.{f0};
 ghost use Rattle.base.specs.Limits.{cppLength};
 ghost use Rattle.base.specs.Refusal.{test, judge, judgeFrom, status};
 ghost use Rattle.tiling.specs.Tiling.{tiles};
-ghost use Rattle.input.specs.Input.{maskFits, lengthTest};
+ghost use Rattle.fits.specs.Fits.{maskFits};
+ghost use Rattle.input.specs.Input.{lengthTest};
 ghost use Rattle.tile.specs.Tile.{state};
 ghost use Rattle.job.specs.Copy.{pixels};
 ghost use Rattle.job.specs.Record.{pixelsOf};
@@ -41,7 +42,7 @@ fn check_lent(s: Status, r: JobRecord, tile: u64, pinned_len: usize, cpp_len: us
     let plan = r.plan;
     let t = plan.tiling;
     let s1 = base::next(s, !records::has_tile(t, tile), 13, 0);
-    let s2 = base::next(s1, !input::is_mask(pinned_len, t.height * t.width), 4, 0);
+    let s2 = base::next(s1, !fits::is_mask(pinned_len, t.height * t.width), 4, 0);
     input::next_length(s2, 2, cpp_len, base::CPP_LEN)
 }
 

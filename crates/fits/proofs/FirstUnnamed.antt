@@ -9,7 +9,7 @@ use lib.Dec.{ltb}
 use lib.ListN.{length, getD, drop}
 use lib.Seq.{drop-cons}
 use native.Mathlib.Numerals.{add-one}
-use Rattle.input.specs.Input.{firstUnnamed}
+use Rattle.fits.specs.Fits.{firstUnnamed}
 
 -- of a list that starts with k
 unnamed-here : (n k : ℕ) (ks : List ℕ) → n ≤ k → firstUnnamed n (k ∷ ks) ≡ 0

@@ -1,7 +1,7 @@
 -- `is_mask` meets its contract: the second test counts only where the first does not hold. Assumes nothing.
 use borrow.Author.Tests.{eq-eqb, ne-eqb}
-use Rattle.input.proofs.is_mask.Statement.{statement}
-use Rattle.input.proofs.is_mask.Tie as tie
+use Rattle.fits.proofs.is_mask.Statement.{statement}
+use Rattle.fits.proofs.is_mask.Tie as tie
 
 returns : tie.Need-returns
 returns c = rw (eq-eqb _ _ (c .if1 .taken))

@@ -1,7 +1,7 @@
 -- `is_within` meets its contract: the second test counts only where the first holds. Assumes nothing.
 use borrow.Author.Tests.{le-leb, lt-leb}
-use Rattle.input.proofs.is_within.Statement.{statement}
-use Rattle.input.proofs.is_within.Tie as tie
+use Rattle.fits.proofs.is_within.Statement.{statement}
+use Rattle.fits.proofs.is_within.Tie as tie
 
 returns : tie.Need-returns
 returns c = rw (le-leb _ _ (c .if1 .taken))

@@ -7,7 +7,7 @@ use mathlib.Core.Bool.{Bool, true, false, not, _&&_, false≢true}
 use native.Mathlib.Omega.{arith}
 use borrow.Author.Tests.{leb-true, le-leb, eqb-true, eqb-false, eq-eqb, ne-eqb, not-false}
 use lib.Dec.{leb, eqb}
-use Rattle.input.specs.Input.{isWithin, sizeFits, maskFits, paletteFits}
+use Rattle.fits.specs.Fits.{isWithin, sizeFits, maskFits, paletteFits}
 
 -- a test that passes is one whose opposite holds
 passes-iff : (b : Bool) → (not b ≡ false) ↔ (b ≡ true)

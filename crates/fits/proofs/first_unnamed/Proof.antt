@@ -5,10 +5,10 @@ use mathlib.Core.Path.{_≡_}
 use native.Mathlib.Omega.{arith}
 use borrow.Author.Needs.{needs}
 use lib.ListN.{length, drop}
-use Rattle.input.specs.Input.{firstUnnamed}
-use Rattle.input.proofs.FirstUnnamed.{unnamed-at, named-at, first-is}
-use Rattle.input.proofs.first_unnamed.Statement.{statement}
-use Rattle.input.proofs.first_unnamed.Tie as tie
+use Rattle.fits.specs.Fits.{firstUnnamed}
+use Rattle.fits.proofs.FirstUnnamed.{unnamed-at, named-at, first-is}
+use Rattle.fits.proofs.first_unnamed.Statement.{statement}
+use Rattle.fits.proofs.first_unnamed.Tie as tie
 
 abbrev Inv-loop : tie.InvT-loop
 Inv-loop indices n i₀ i = (i ≤ length indices) × (firstUnnamed n indices ≡ i + firstUnnamed n (drop i indices))
