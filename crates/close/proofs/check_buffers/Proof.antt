@@ -24,7 +24,7 @@ next-length-requires-3 : tie.Need-next-length-requires-3
 next-length-requires-3 c κs = search needs
 
 returns-2 : tie.Need-returns-2
-returns-2 c = cc
+returns-2 c = rw (c .next-length3 .ensures, c .before .next-length2 .ensures, c .before .before .next-length .ensures, c .before .before .before .next .ensures, c .before .before .before .before .tile-count .ensures)
 
 pub check-buffers-spec : {M : Type 1} → statement M
 check-buffers-spec =

@@ -25,7 +25,7 @@ check-missing-requires c κs =
 
 returns : tie.Need-returns
 unfolding closeTests Numbered
-returns c = after-record _ _ (omega arith) (cc)
+returns c = after-record _ _ (omega arith) (rw (c .check-missing .ensures, c .before .check-buffers .ensures, c .before .before .check-record .ensures))
 
 pub check-close-spec : {M : Type 1} → statement M
 check-close-spec =

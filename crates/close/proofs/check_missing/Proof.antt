@@ -15,7 +15,7 @@ next-requires : tie.Need-next-requires
 next-requires c κs = search needs
 
 returns-2 : tie.Need-returns-2
-returns-2 c = let q = c .before .before .before .before .before .pre (c .before .before .if1 .left) .1 in cc
+returns-2 c = let q = c .before .before .before .before .before .pre (c .before .before .if1 .left) .1 in rw (c .next .ensures, c .before .first-missing .ensures, q)
 
 pub check-missing-spec : {M : Type 1} → statement M
 check-missing-spec = tie.close (tie.spec returns first-missing-requires next-requires returns-2)

@@ -15,7 +15,7 @@ next-length-requires : tie.Need-next-length-requires
 next-length-requires c κs = search needs
 
 returns-2 : tie.Need-returns-2
-returns-2 c = cc
+returns-2 c = rw (c .next-length .ensures, c .before .tile-count .ensures)
 
 pub check-deltas-spec : {M : Type 1} → statement M
 check-deltas-spec = tie.close (tie.spec returns tile-count-requires next-length-requires returns-2)

@@ -21,7 +21,7 @@ check-turn-requires c κs = λ z. limits-of _ (c .before .before .before .before
 
 returns-2 : tie.Need-returns-2
 unfolding countTest
-returns-2 c = cc
+returns-2 c = rw (c .check-turn .ensures, c .before .next .ensures, c .before .before .is-over .ensures)
 
 pub check-turn-spec : {M : Type 1} → statement M
 check-turn-spec =

@@ -19,7 +19,7 @@ check-named-requires : tie.Need-check-named-requires
 check-named-requires c κs = search needs
 
 returns-2 : tie.Need-returns-2
-returns-2 c = cc
+returns-2 c = rw (c .check-named .ensures, c .before .next-length .ensures)
 
 pub check-inks-spec : {M : Type 1} → statement M
 check-inks-spec =

@@ -35,7 +35,7 @@ next-length-requires c κs = search needs
 
 returns-2 : tie.Need-returns-2
 unfolding pixelsOf
-returns-2 c = cc
+returns-2 c = rw (c .next-length .ensures, c .before .next2 .ensures, c .before .before .is-mask .ensures, c .before .before .before .before .next .ensures, c .before .before .before .before .before .has-tile .ensures)
 
 pub check-lent-spec : {M : Type 1} → statement M
 check-lent-spec =

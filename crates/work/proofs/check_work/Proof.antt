@@ -35,7 +35,7 @@ check-inks-requires c κs = λ z. lent (c .before) (passed _ (_ ∷ _ ∷ []) (o
 
 returns : tie.Need-returns
 unfolding workTests copyTest Numbered
-returns c = after-record _ _ (omega arith) (cc)
+returns c = after-record _ _ (omega arith) (rw (c .check-inks .ensures, c .before .check-copy .ensures, c .before .before .check-lent .ensures, c .before .before .before .check-record .ensures))
 
 pub check-work-spec : {M : Type 1} → statement M
 check-work-spec =
