@@ -21,7 +21,7 @@ fn is_missing(t: Tiling, phase: usize, tile: usize, state: u8) -> bool
     requires { ⌜ Limits t ⌝ }
     ensures { λ b. ⌜ b ≡ (inPhase t phase tile && not (inState Back state)) ⌝ }
 {
-    tiling::is_in_phase(t, phase, tile) && !job::is_in(state, TileState::Back)
+    tiling::is_in_phase(t, phase, tile) && !states::is_in(state, TileState::Back)
 }
 
 // The first tile of the phase that is not back, or the number of tiles.

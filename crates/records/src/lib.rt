@@ -172,7 +172,7 @@ pub fn check_state(s: Status, tile_states: &[u8], tile: usize, wanted: TileState
     if s.number != 0 {
         return s;
     }
-    base::next(s, !job::is_in(tile_states[tile], wanted), 14, 0)
+    base::next(s, !states::is_in(tile_states[tile], wanted), 14, 0)
 }
 
 // Refusal 6 of a copy.

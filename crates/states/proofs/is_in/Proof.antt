@@ -1,8 +1,8 @@
 -- `is_in` meets its contract: states are told apart by their bytes. Assumes nothing.
 use borrow.Author.Needs.{needs}
 use Rattle.job.specs.Record.{inState, byteOf}
-use Rattle.job.proofs.is_in.Statement.{statement}
-use Rattle.job.proofs.is_in.Tie as tie
+use Rattle.states.proofs.is_in.Statement.{statement}
+use Rattle.states.proofs.is_in.Tie as tie
 
 tile-state-requires : tie.Need-tile-state-requires
 tile-state-requires c κs = search needs

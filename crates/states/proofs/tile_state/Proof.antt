@@ -1,8 +1,8 @@
 -- `tile_state` meets its contract: the tests that it makes are those of `stateOf`. Assumes nothing.
 use borrow.Author.Tests.{eq-eqb, ne-eqb}
 use Rattle.job.specs.Record.{stateOf}
-use Rattle.job.proofs.tile_state.Statement.{statement}
-use Rattle.job.proofs.tile_state.Tie as tie
+use Rattle.states.proofs.tile_state.Statement.{statement}
+use Rattle.states.proofs.tile_state.Tie as tie
 
 returns : tie.Need-returns
 unfolding stateOf
