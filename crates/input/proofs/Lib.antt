@@ -1,5 +1,3 @@
-pub mod FirstUnnamed
-pub mod Limits
 mod EyeValidity
 pub mod InputLaws
 pub mod Validity

@@ -14,10 +14,11 @@ use Rattle.base.proofs.Meanings.{Means, denied, holds, lt, gt, ne, not-and, not
 use Rattle.base.proofs.RowLaws.{Decides, decided, at-lowest, no-row, told, tells, Rises, by-lines, at-0}
 use Rattle.eye.specs.declared.DbsParams.{DbsParams}
 use Rattle.eye.specs.Eye.{eyeTests}
-use Rattle.input.specs.Input.{Input, input, pixelCount, inkCount, maskFits, paletteFits, firstUnnamed, imageTests, inkTests, inputTests, runTests, refineRunTests, openRunTests, refineTests, openTests}
+use Rattle.fits.specs.Fits.{maskFits, paletteFits, firstUnnamed}
+use Rattle.input.specs.Input.{Input, input, pixelCount, inkCount, imageTests, inkTests, inputTests, runTests, refineRunTests, openRunTests, refineTests, openTests}
 use Rattle.input.specs.Rows.{row6, row7, row8, row9, imageRows, inkRows, measureRows, inputRows, refineRows, openRows}
-use Rattle.input.proofs.FirstUnnamed.{first-is, named-of}
-use Rattle.input.proofs.Limits.{palette-iff}
+use Rattle.fits.proofs.FirstUnnamed.{first-is, named-of}
+use Rattle.fits.proofs.Limits.{palette-iff}
 use Rattle.input.proofs.EyeValidity.{finite-positive-iff}
 
 -- ---- rows 5 and 6

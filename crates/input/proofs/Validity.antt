@@ -14,8 +14,8 @@ use Rattle.eye.proofs.EyeLaws.{radii-fit}
 use Rattle.input.specs.Input.{Input, pixelCount, inkCount, imageTests, inkTests, inputTests, lengthTest, runTests, refineRunTests, openRunTests, refineTests, openTests}
 use Rattle.input.specs.Valid.{Valid, ValidRefine, ValidOpen}
 use Rattle.base.proofs.JudgeLaws.{accepted-iff, passes-append}
-use Rattle.input.proofs.FirstUnnamed.{named-of, of-named}
-use Rattle.input.proofs.Limits.{size-iff, length-iff, mask-iff, palette-iff}
+use Rattle.fits.proofs.FirstUnnamed.{named-of, of-named}
+use Rattle.fits.proofs.Limits.{size-iff, length-iff, mask-iff, palette-iff}
 use Rattle.input.proofs.EyeValidity.{eye-valid, valid-eye}
 use Rattle.input.proofs.InputLaws.{input-numbered}
 

@@ -1,15 +1,16 @@
 -- What refine, measure and open are given, and its tests: rows 1 to 11 of document 01's table of refusals, in order.
 -- 'Refine (buffers 1, 2, 3, 8), open (1 to 5, 8) and measure (none) test 1 to 11 in number order, each what it is given.'
-use Prim.Native.Nat.{ℕ, suc, _*_, _/_, _%_}
-use mathlib.Core.Bool.{Bool, not, cond, _&&_, _||_}
+use Prim.Native.Nat.{ℕ, _*_, _/_}
+use mathlib.Core.Bool.{not}
 use mathlib.Core.List.{List, [], _∷_, _++_}
-use lib.Dec.{leb, ltb, eqb}
+use lib.Dec.{ltb, eqb}
 use lib.ListN.{length}
-use Rattle.base.specs.Limits.{maxSide, maxInks, maxPasses, cppLength}
+use Rattle.base.specs.Limits.{maxPasses, cppLength}
 use Rattle.base.specs.Refusal.{Test, test, judge}
 use Rattle.eye.specs.declared.DbsParams.{DbsParams}
 use Rattle.eye.specs.declared.Eye.{Eye}
 use Rattle.eye.specs.Eye.{eyeTests, withRadii}
+use Rattle.fits.specs.Fits.{sizeFits, maskFits, paletteFits, firstUnnamed}
 
 -- Document 01's plane with its pixels, palette, indices and pin mask, and the eye record. Measuring has no mask: here an empty one.
 pub record Input : Type 0 where
@@ -34,26 +35,6 @@ unfoldable pub inkCount : Input → ℕ
 inkCount I = length (I .palette) / 3
 
 -- ---- rows 1 to 9: an image, its halftone and the eye
-
-abbrev pub isWithin : ℕ → ℕ → ℕ → Bool
-isWithin low x high = leb low x && leb x high
-
--- 'width w 1–4,096, height h 0–4,096'
-abbrev pub sizeFits : ℕ → ℕ → Bool
-sizeFits w h = isWithin 1 w maxSide && leb h maxSide
-
--- 'Pin mask: no bytes (nothing pinned), or n bytes'
-abbrev pub maskFits : ℕ → ℕ → Bool
-maskFits pinned n = eqb pinned 0 || eqb pinned n
-
--- '3 × (1–256) bytes'
-abbrev pub paletteFits : ℕ → Bool
-paletteFits palette = eqb (palette % 3) 0 && isWithin 1 (palette / 3) maxInks
-
--- the place of the first index that names none of n inks, or the length
-unfoldable pub firstUnnamed : ℕ → List ℕ → ℕ
-firstUnnamed n [] = 0
-firstUnnamed n (k ∷ ks) = let later = firstUnnamed n ks in cond (ltb k n) (suc later) 0
 
 -- rows 1 to 4, of a size and the lengths of the pixels, the indices and the mask
 unfoldable pub imageTests : ℕ → ℕ → ℕ → ℕ → ℕ → List Test

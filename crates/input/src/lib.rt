@@ -4,42 +4,13 @@
 // (specs/Valid.antt, proofs/Validity.antt).
 use base::CPP_LEN;
 use base::Index;
-use base::MAX_INKS;
 use base::MAX_PASSES;
-use base::MAX_SIDE;
 use base::Status;
 use eye::DbsParams;
 use eye::Eye;
 ghost use mathlib.Core.Path.{_≡_};
 ghost use Rattle.base.specs.Refusal.{judge, accepted, next, judgeFrom};
-ghost use Rattle.input.specs.Input.{isWithin, sizeFits, maskFits, paletteFits, firstUnnamed, imageTests, inkTests, input, checkedOf, lengthTest, runTests, refineRunTests, openRunTests};
-
-pub fn is_within(low: u64, x: u64, high: u64) -> bool
-    ensures { λ r. ⌜ r ≡ isWithin low x high ⌝ }
-{
-    low <= x && x <= high
-}
-
-// A width of 1 to 4,096 and a height of 0 to 4,096.
-pub fn is_size(width: u64, height: u64) -> bool
-    ensures { λ r. ⌜ r ≡ sizeFits width height ⌝ }
-{
-    is_within(1, width, MAX_SIDE as u64) && height <= MAX_SIDE as u64
-}
-
-// No mask, or a byte for each of n pixels.
-pub fn is_mask(pinned_len: usize, n: usize) -> bool
-    ensures { λ r. ⌜ r ≡ maskFits «pinned_len» n ⌝ }
-{
-    pinned_len == 0 || pinned_len == n
-}
-
-// 3 bytes for each of 1 to 256 inks.
-fn is_palette(palette_len: usize) -> bool
-    ensures { λ r. ⌜ r ≡ paletteFits «palette_len» ⌝ }
-{
-    palette_len % 3 == 0 && is_within(1, palette_len as u64 / 3, MAX_INKS as u64)
-}
+ghost use Rattle.input.specs.Input.{imageTests, inkTests, input, checkedOf, lengthTest, runTests, refineRunTests, openRunTests};
 
 // Refusals 1 to 4.
 fn check_image(
@@ -52,42 +23,23 @@ fn check_image(
 ) -> Status
     ensures { λ r. ⌜ r ≡ judgeFrom s (imageTests width height «pixels_len» «indices_len» «pinned_len») ⌝ }
 {
-    let s1 = base::next(s, !is_size(width, height), 1, 0);
+    let s1 = base::next(s, !fits::is_size(width, height), 1, 0);
     if s1.number != 0 {
         return s1;
     }
     let n = height as usize * width as usize;
     let s2 = base::next(s1, pixels_len != 3 * n, 2, 0);
     let s3 = base::next(s2, indices_len != n, 3, 0);
-    base::next(s3, !is_mask(pinned_len, n), 4, 0)
-}
-
-fn wide(b: Index) -> usize
-    ensures { λ r. ⌜ r ≡ b ⌝ }
-{
-    b as usize
-}
-
-// The place of the first index that names none of n inks, or the length.
-pub fn first_unnamed(indices: &[Index], n: usize) -> usize
-    ensures { λ r. ⌜ r ≡ firstUnnamed n (now (indices .entry)) ⌝ }
-{
-    let mut i = 0;
-    while i < indices.len() {
-        if wide(indices[i]) >= n {
-            return i;
-        }
-        i += 1;
-    }
-    i
+    base::next(s3, !fits::is_mask(pinned_len, n), 4, 0)
 }
 
 // Refusals 5 and 6.
 fn check_inks(s: Status, palette_len: usize, indices: &[Index]) -> Status
     ensures { λ r. ⌜ r ≡ judgeFrom s (inkTests «palette_len» (now (indices .entry))) ⌝ }
 {
-    let place = first_unnamed(indices, palette_len / 3);
-    let s1 = base::next(s, !is_palette(palette_len), 5, 0);
+    let place = fits::first_unnamed(indices, palette_len / 3);
+    let palette_fits = fits::is_palette(palette_len);
+    let s1 = base::next(s, !palette_fits, 5, 0);
     base::next(s1, place < indices.len(), 6, place as u64)
 }
 

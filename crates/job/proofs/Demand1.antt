@@ -16,7 +16,7 @@ use Rattle.base.proofs.RefusalLaws.{Numbered}
 use Rattle.base.proofs.JudgeLaws.{passes-append}
 use Rattle.base.proofs.RowLaws.{Decides}
 use Rattle.base.proofs.AnswerLaws.{is-accepted, not-accepted, Answers, then-answers, through, judged}
-use Rattle.input.proofs.Limits.{length-iff}
+use Rattle.fits.proofs.Limits.{length-iff}
 use Rattle.input.proofs.Validity.{open-numbered, open-passes}
 use Rattle.refine.proofs.Promises.{refine-judged, run-ends}
 use Rattle.perceived.proofs.Laws.{measure-judged}

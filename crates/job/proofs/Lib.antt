@@ -17,7 +17,5 @@ pub mod Counts
 pub mod Companions
 pub mod Copies
 pub mod Progress
-pub mod Cases
 pub mod WhateverHeld
 pub mod AnyFloats
-pub mod JobCases

@@ -4,10 +4,14 @@ use mathlib.Core.Path.{_≡_}
 use mathlib.Core.List.{List}
 use lib.ListN.{length, getD}
 use lib.Ieee.{Float}
-use borrow.Author.Tests.{eq-eqb, le-ltb}
+use native.Mathlib.Omega.{arith}
+use borrow.Author.Tests.{le-ltb}
 use Rattle.base.proofs.AnswerLaws.{is-accepted}
+use Rattle.base.proofs.RefusalLaws.{Numbered}
+use Rattle.base.proofs.JudgeLaws.{accepted-iff}
 use Rattle.base.specs.declared.Status.{Status}
-use Rattle.base.specs.Refusal.{judge, accepted}
+use Rattle.base.specs.Refusal.{judge, accepted, Passes}
+use Rattle.fits.proofs.Limits.{length-iff}
 use Rattle.tile.specs.Tile.{State}
 use Rattle.job.specs.declared.JobRecord.{JobRecord}
 use Rattle.job.specs.Words.{runLength, runTest, wordsTests, decode}
@@ -22,8 +26,8 @@ use Rattle.job.specs.Demand1.{ValidRun}
 -- ---- a run that passes
 
 pub reads : (words : List ℕ) → ValidRun words → judge (wordsTests words) ≡ accepted
-unfolding judge wordsTests runTest
-reads words s = rw (eq-eqb (length words) runLength (s .whole), le-ltb 1 (getD words 11 0) (s .flag))
+unfolding wordsTests runTest Numbered Passes
+reads words s = accepted-iff (wordsTests words) (omega arith) .1 (length-iff (length words) runLength .1 (s .whole), (le-ltb 1 (getD words 11 0) (s .flag), tt))
 
 pub on-run : {A : Type 0} (words : List ℕ) (refused : Status → A) (call : JobRecord → A) → ValidRun words → onRun words refused call ≡ call (decode words)
 unfolding onRun

@@ -16,9 +16,9 @@ use Rattle.base.specs.Refusal.{accepted, Passes}
 use Rattle.base.proofs.LoopLaws.{upTo-ind}
 use Rattle.eye.specs.Eye.{KernelRadius}
 use Rattle.tiling.specs.Tiling.{tiles, inPhase, tile, region}
-use Rattle.input.specs.Input.{isWithin as within, maskFits}
+use Rattle.fits.specs.Fits.{isWithin as within, maskFits}
 use Rattle.base.proofs.JudgeLaws.{passes-append}
-use Rattle.input.proofs.FirstUnnamed.{named-of, of-named}
+use Rattle.fits.proofs.FirstUnnamed.{named-of, of-named}
 use Rattle.tile.specs.Tile.{State}
 use Rattle.job.specs.declared.JobRecord.{JobRecord}
 use Rattle.job.specs.declared.TileState.the-variants.{Waiting, Out}

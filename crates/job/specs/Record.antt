@@ -11,7 +11,7 @@ use Rattle.base.specs.Limits.{maxInks, maxPasses, maxRadius}
 use Rattle.base.specs.Refusal.{Test, test}
 use Rattle.tiling.specs.Tiling.{tiles, inPhase}
 use Rattle.search.specs.Shared.{Shared, shared}
-use Rattle.input.specs.Input.{isWithin, sizeFits}
+use Rattle.fits.specs.Fits.{isWithin, sizeFits}
 use Rattle.tiling.specs.declared.Tiling.{Tiling}
 use Rattle.job.specs.declared.Plan.{Plan}
 use Rattle.job.specs.declared.JobRecord.{JobRecord}

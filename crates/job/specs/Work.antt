@@ -10,7 +10,8 @@ use Rattle.base.specs.Grid.{area}
 use Rattle.base.specs.Limits.{cppLength}
 use Rattle.base.specs.Refusal.{Test, test, judge, isAccepted}
 use Rattle.tiling.specs.Tiling.{tiles, region}
-use Rattle.input.specs.Input.{maskFits, lengthTest, firstUnnamed}
+use Rattle.fits.specs.Fits.{maskFits, firstUnnamed}
+use Rattle.input.specs.Input.{lengthTest}
 use Rattle.tile.specs.Tile.{State, state, noProgress}
 use Rattle.job.specs.declared.JobRecord.{JobRecord}
 use Rattle.job.specs.Record.{pixelsOf, jobShared, recordTests}

@@ -3,7 +3,7 @@
 // the image of the plain walk (specs/Claim.antt); proofs/ has its proof.
 use tiling::Tiling;
 ghost use mathlib.Core.Path.{_≡_};
-ghost use Rattle.job.specs.Record.{stateOf, byteOf, inState};
+ghost use Rattle.job.specs.Record.{byteOf};
 
 // What an open fixes and no call changes.
 pub struct Plan {
@@ -37,19 +37,6 @@ pub enum TileState {
     Back,
 }
 
-// What a byte says of its tile.
-pub fn tile_state(byte: u8) -> TileState
-    ensures { λ s. ⌜ s ≡ stateOf byte ⌝ }
-{
-    if byte == 0 {
-        return TileState::Waiting;
-    }
-    if byte == 1 {
-        return TileState::Out;
-    }
-    TileState::Back
-}
-
 // The byte that a call writes of a tile.
 pub fn state_byte(state: TileState) -> u8
     ensures { λ b. ⌜ b ≡ byteOf state ⌝ }
@@ -59,11 +46,4 @@ pub fn state_byte(state: TileState) -> u8
         TileState::Out => 1,
         TileState::Back => 2,
     }
-}
-
-// Whether a byte says that its tile is in a state.
-pub fn is_in(byte: u8, wanted: TileState) -> bool
-    ensures { λ b. ⌜ b ≡ inState wanted byte ⌝ }
-{
-    state_byte(tile_state(byte)) == state_byte(wanted)
 }

@@ -24,7 +24,7 @@ ghost use Rattle.job.specs.Work.{copyTest};
 fn is_radius(radius: usize) -> bool
     ensures { λ r. ⌜ r ≡ radiusFits radius ⌝ }
 {
-    radius % 2 == 0 && input::is_within(2, radius as u64, 32)
+    radius % 2 == 0 && fits::is_within(2, radius as u64, 32)
 }
 
 // The next line of refusal 12.
@@ -48,8 +48,8 @@ fn check_plan(r: JobRecord) -> Status
 {
     let plan = r.plan;
     let t = plan.tiling;
-    let s1 = limit(base::ok(), !input::is_size(t.width as u64, t.height as u64));
-    let s2 = limit(s1, !input::is_within(1, plan.inks, base::MAX_INKS as u64));
+    let s1 = limit(base::ok(), !fits::is_size(t.width as u64, t.height as u64));
+    let s2 = limit(s1, !fits::is_within(1, plan.inks, base::MAX_INKS as u64));
     let s3 = limit(s2, !is_radius(t.lum));
     let s4 = limit(s3, !is_radius(t.chroma));
     limit(s4, plan.allowed > base::MAX_PASSES as u64)
@@ -172,7 +172,7 @@ pub fn check_state(s: Status, tile_states: &[u8], tile: usize, wanted: TileState
     if s.number != 0 {
         return s;
     }
-    base::next(s, !job::is_in(tile_states[tile], wanted), 14, 0)
+    base::next(s, !states::is_in(tile_states[tile], wanted), 14, 0)
 }
 
 // Refusal 6 of a copy.
@@ -180,6 +180,6 @@ pub fn check_named(s: Status, r: JobRecord, copy_indices: &[Index]) -> Status
     ensures { λ u. ⌜ u ≡ next s (copyTest r (now («copy_indices» .entry))) ⌝ }
 {
     let plan = r.plan;
-    let place = input::first_unnamed(copy_indices, plan.inks as usize);
+    let place = fits::first_unnamed(copy_indices, plan.inks as usize);
     base::next(s, place < copy_indices.len(), 6, place as u64)
 }

@@ -10,7 +10,7 @@ use Rattle.base.specs.declared.Status.{Status}
 use Rattle.base.specs.Refusal.{Test, judge, accepted, Passes}
 use Rattle.base.proofs.RefusalLaws.{Numbered}
 use Rattle.base.proofs.JudgeLaws.{passes-of-zero, judge-zero}
-use Rattle.input.proofs.Limits.{length-iff}
+use Rattle.fits.proofs.Limits.{length-iff}
 use Rattle.job.specs.declared.JobRecord.{JobRecord}
 use Rattle.job.specs.Words.{runLength, runTest, wordsTests, decode}
 use Rattle.job.specs.Boundary.{onRun}

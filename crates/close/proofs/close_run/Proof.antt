@@ -1,5 +1,4 @@
 -- `close_run` meets its contract: once the run has passed it is the call on the record, and an accepted one rewrites its run. Assumes nothing.
-use mathlib.Core.Path.{ap}
 use Rattle.job.specs.Boundary.{closedOver, closeRun}
 use Rattle.words.proofs.RunLaws.{unread, read}
 use borrow.Author.Needs.{needs}
@@ -58,7 +57,7 @@ returns-2 c =
     let k = passed m in
     let r = run k in
     let ok = r .read .ensures .1 (k .if1 .left) in
-    read (start r .args .«record» .now) (r .read .ensures .0) _ _ (k .if1 .left) (ok .1) (rw (c .before .before .leave .ensures .0, c .before .before .leave .ensures .1) (ap (closedOver (start r .args .«record» .now)) (m .close .ensures)))
+    read (start r .args .«record» .now) (r .read .ensures .0) _ _ (k .if1 .left) (ok .1) (rw (c .before .before .leave .ensures .0, c .before .before .leave .ensures .1, ← m .close .ensures))
 
 pub close-run-spec : {M : Type 1} → statement M
 close-run-spec =

@@ -9,14 +9,15 @@ use Rattle.base.specs.Refusal.{test, next, Passes}
 use Rattle.base.proofs.Bounds.{image-product}
 use Rattle.base.proofs.RefusalLaws.{Numbered}
 use Rattle.base.proofs.JudgeLaws.{stays, zero-from}
-use Rattle.input.specs.Input.{sizeFits, imageTests}
-use Rattle.input.proofs.Limits.{size-iff}
+use Rattle.fits.specs.Fits.{sizeFits}
+use Rattle.input.specs.Input.{imageTests}
+use Rattle.fits.proofs.Limits.{size-iff}
 use borrow.Author.Needs.{needs}
 use Rattle.input.proofs.check_image.Statement.{statement}
 use Rattle.input.proofs.check_image.Tie as tie
 
 first : (c : tie.After-next) → let a = c .before .before .args in c .next .result ≡ next (a .s) (test (not (sizeFits (a .width) (a .height))) 1 0)
-first c = cc
+first c = rw (c .next .ensures, c .before .is-size .ensures)
 
 product : (c : tie.Else1) → c .before .before .before .before .args .height * c .before .before .before .before .args .width ≤ 16777216
 unfolding Numbered Passes
@@ -56,7 +57,7 @@ next-requires-4 c κs = search needs
 
 returns-2 : tie.Need-returns-2
 unfolding imageTests
-returns-2 c = cc
+returns-2 c = rw (c .next4 .ensures, c .before .is-mask .ensures, c .before .before .next3 .ensures, c .before .before .before .next2 .ensures, first (c .before .before .before .before .before .before))
 
 pub check-image-spec : {M : Type 1} → statement M
 check-image-spec =

@@ -18,7 +18,7 @@ next-requires-2 c κs = search needs
 
 returns : tie.Need-returns
 unfolding inkTests
-returns c = cc
+returns c = rw (c .next2 .ensures, c .before .next .ensures, c .before .before .is-palette .ensures, c .before .before .before .first-unnamed .ensures)
 
 pub check-inks-spec : {M : Type 1} → statement M
 check-inks-spec =

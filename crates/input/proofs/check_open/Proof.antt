@@ -21,7 +21,7 @@ next-length-requires-3 c κs = search needs
 
 returns : tie.Need-returns
 unfolding openRunTests runTests Numbered
-returns c = by-steps _ (omega arith) (cc)
+returns c = by-steps _ (omega arith) (rw (c .next-length3 .ensures, c .before .next-length2 .ensures, c .before .before .next-length .ensures, c .before .before .before .check-run .ensures))
 
 pub check-open-spec : {M : Type 1} → statement M
 check-open-spec =

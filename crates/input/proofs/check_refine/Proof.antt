@@ -15,7 +15,7 @@ next-length-requires c κs = search needs
 
 returns : tie.Need-returns
 unfolding refineRunTests runTests Numbered
-returns c = by-steps _ (omega arith) (cc)
+returns c = by-steps _ (omega arith) (rw (c .next-length .ensures, c .before .check-run .ensures))
 
 pub check-refine-spec : {M : Type 1} → statement M
 check-refine-spec = tie.close (tie.spec check-run-requires next-length-requires returns)

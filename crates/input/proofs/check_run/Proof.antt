@@ -21,7 +21,7 @@ next-length-requires-3 c κs = search needs
 
 returns : tie.Need-returns
 unfolding runTests
-returns c = cc
+returns c = rw (c .next-length3 .ensures, c .before .next-length2 .ensures, c .before .before .next-length .ensures, c .before .before .before .next .ensures, c .before .before .before .before .ok .ensures)
 
 pub check-run-spec : {M : Type 1} → statement M
 check-run-spec =

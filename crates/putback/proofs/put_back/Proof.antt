@@ -1,7 +1,6 @@
 -- `put_back` meets its contract: a refusal keeps all, and a valid put back writes the copy, adds the count and keeps the delta. Assumes nothing.
 use native.Mathlib.Omega.{arith}
-use mathlib.Core.Path.{_≡_, ap, _∙_}
-use lib.ListN.{set}
+use mathlib.Core.Path.{_≡_}
 use Rattle.moves.specs.Moves.{progressOf}
 use Rattle.base.specs.declared.Status.{Status}
 use Rattle.base.specs.Refusal.{judge}
@@ -10,7 +9,7 @@ use Rattle.tiling.proofs.Sizes.{sizes}
 use Rattle.job.specs.declared.JobRecord.{JobRecord}
 use Rattle.job.specs.Copy.{Pixels, pixels}
 use Rattle.job.specs.Record.{pixelsOf}
-use Rattle.job.specs.PutBack.{putBack, putBackTests, withProgress}
+use Rattle.job.specs.PutBack.{putBackTests, withProgress}
 use Rattle.job.specs.Valid.{ValidPutBack}
 use Rattle.job.proofs.Answers.{putBack-answers}
 use Rattle.job.proofs.Validity.{putBack-passes}
@@ -123,10 +122,8 @@ returns-2 c =
     let t = k .before .before in
     let s = start t in
     let a = s .args in
-    rw (c .before .state-byte .ensures)
-    (ap (λ p. putBack (t .check-put-back .result) (withProgress (a .r) (progressOf (a .accepted) (a .delta))) p (set (a .tile-states .now) (a .tile) 2) (set (a .deltas .now) (a .tile) (a .delta)))
-    (at-write-region .write-region .ensures)
-    ∙ putBack-answers (a .r) (a .tile) (image s) (a .tile-states .now) (a .deltas .now) (brought s) .made _ (t .check-put-back .ensures) (k .if1 .left))
+    rw (c .before .state-byte .ensures, at-write-region .write-region .ensures)
+    (putBack-answers (a .r) (a .tile) (image s) (a .tile-states .now) (a .deltas .now) (brought s) .made _ (t .check-put-back .ensures) (k .if1 .left))
 
 pub put-back-spec : {M : Type 1} → statement M
 put-back-spec =

@@ -1,5 +1,4 @@
 -- `put_back_run` meets its contract: once the run has passed it is the call on the record, and an accepted one rewrites its run. Assumes nothing.
-use mathlib.Core.Path.{ap}
 use Rattle.job.specs.Boundary.{putBackOver, putBackRun}
 use Rattle.words.proofs.RunLaws.{unread, read}
 use borrow.Author.Needs.{needs}
@@ -68,7 +67,7 @@ returns-2 c =
     let k = passed m in
     let r = run k in
     let ok = r .read .ensures .1 (k .if1 .left) in
-    read (start r .args .«record» .now) (r .read .ensures .0) _ _ (k .if1 .left) (ok .1) (rw (c .before .before .leave .ensures .0, c .before .before .leave .ensures .1) (ap (putBackOver (start r .args .«record» .now)) (m .put-back .ensures)))
+    read (start r .args .«record» .now) (r .read .ensures .0) _ _ (k .if1 .left) (ok .1) (rw (c .before .before .leave .ensures .0, c .before .before .leave .ensures .1, ← m .put-back .ensures))
 
 pub put-back-run-spec : {M : Type 1} → statement M
 put-back-run-spec =

@@ -23,7 +23,7 @@ next-length-requires-2 : tie.Need-next-length-requires-2
 next-length-requires-2 c κs = search needs
 
 returns-2 : tie.Need-returns-2
-returns-2 c = cc
+returns-2 c = rw (c .next-length2 .ensures, c .before .next-length .ensures, c .before .before .region-size .ensures)
 
 pub check-copy-spec : {M : Type 1} → statement M
 check-copy-spec =

@@ -29,7 +29,7 @@ next-length-requires-2 : tie.Need-next-length-requires-2
 next-length-requires-2 c κs = search needs
 
 returns-2 : tie.Need-returns-2
-returns-2 c = cc
+returns-2 c = rw (c .next-length2 .ensures, c .before .tile-count .ensures, c .before .before .next-length .ensures, c .before .before .before .next .ensures)
 
 pub check-image-spec : {M : Type 1} → statement M
 check-image-spec =

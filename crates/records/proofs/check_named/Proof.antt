@@ -12,7 +12,7 @@ next-requires c κs = search needs
 
 returns : tie.Need-returns
 unfolding copyTest
-returns c = cc
+returns c = rw (c .next .ensures, c .before .first-unnamed .ensures)
 
 pub check-named-spec : {M : Type 1} → statement M
 check-named-spec = tie.close (tie.spec first-unnamed-requires next-requires returns)

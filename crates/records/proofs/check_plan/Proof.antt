@@ -36,7 +36,10 @@ limit-requires-5 c κs = search needs
 
 returns : tie.Need-returns
 unfolding recordTests
-returns c = cc
+returns c =
+    let at-is-radius = c .before .before .before .before .before in
+    let at-is-size = at-is-radius .before .before .before .before in
+    rw (c .limit5 .ensures, c .before .before .limit4 .ensures, c .before .before .before .is-radius2 .ensures, c .before .before .before .before .limit3 .ensures, at-is-radius .is-radius .ensures, at-is-radius .before .limit2 .ensures, at-is-radius .before .before .is-within .ensures, at-is-radius .before .before .before .limit .ensures, at-is-size .is-size .ensures, at-is-size .before .ok .ensures)
 
 pub check-plan-spec : {M : Type 1} → statement M
 check-plan-spec =

@@ -8,7 +8,7 @@ use Rattle.base.specs.Refusal.{accepted, Passes}
 use Rattle.base.proofs.Bounds.{image-product}
 use Rattle.base.proofs.RefusalLaws.{Numbered}
 use Rattle.base.proofs.JudgeLaws.{stays, zero-from}
-use Rattle.input.proofs.Limits.{size-iff}
+use Rattle.fits.proofs.Limits.{size-iff}
 use Rattle.job.specs.Record.{pixelsOf, recordTests}
 use borrow.Author.Needs.{needs}
 use Rattle.records.proofs.check_record.Statement.{statement}

@@ -18,7 +18,7 @@ next-requires-2 : tie.Need-next-requires-2
 next-requires-2 c κs = search needs
 
 returns-2 : tie.Need-returns-2
-returns-2 c = cc
+returns-2 c = rw (c .next2 .ensures, c .before .is-due .ensures, c .before .before .next .ensures)
 
 pub check-turn-spec : {M : Type 1} → statement M
 check-turn-spec =

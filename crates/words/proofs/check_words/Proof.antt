@@ -9,7 +9,7 @@ use Rattle.base.specs.declared.Status.{Status}
 use Rattle.base.specs.Refusal.{test, accepted, next, Passes}
 use Rattle.base.proofs.RefusalLaws.{Numbered}
 use Rattle.base.proofs.JudgeLaws.{stays, by-steps, zero-from}
-use Rattle.input.proofs.Limits.{length-iff}
+use Rattle.fits.proofs.Limits.{length-iff}
 use Rattle.job.specs.Words.{runLength, runTest, wordsTests}
 use borrow.Author.Needs.{needs}
 use Rattle.words.proofs.check_words.Statement.{statement}
