@@ -1,13 +1,13 @@
--- `search::fill_places` meets its contract: after each turn the places of the codes passed are filled in. Assumes nothing.
+-- `places::fill_places` meets its contract: after each turn the places of the codes passed are filled in. Assumes nothing.
 use mathlib.Core.Path.{_≡_}
 use Prim.Native.Nat.{_-_, _≤_}
 use native.Mathlib.Omega.{arith}
 use lib.ListN.{length, length-set}
 use borrow.Author.Needs.{needs}
 use Rattle.base.proofs.TableLaws.{filled, fill-none, fill-turn, fill-done}
-use Rattle.search.specs.Fast.{partnerPlace}
-use Rattle.search.proofs.fill_places.Statement.{statement}
-use Rattle.search.proofs.fill_places.Tie as tie
+use Rattle.places.specs.Places.{partnerPlace}
+use Rattle.places.proofs.fill_places.Statement.{statement}
+use Rattle.places.proofs.fill_places.Tie as tie
 
 abbrev Inv-loop : tie.InvT-loop
 Inv-loop places₀ pinned t tab p i₀ places i = (i ≤ 8) × (length places ≡ length places₀) × (places ≡ filled i (partnerPlace pinned t (tab .w) (p .x) (p .y)) places₀)

@@ -1,14 +1,14 @@
--- `search::step_place` meets its contract: amid the image the neighbour stands a step on, in the window and in the mask. Assumes nothing.
+-- `places::step_place` meets its contract: amid the image the neighbour stands a step on, in the window and in the mask. Assumes nothing.
 use mathlib.Core.Path.{_≡_, _∙_}
-use mathlib.Core.Bool.{true, false, not}
+use mathlib.Core.Bool.{true, false}
 use native.Mathlib.Omega.{arith}
 use borrow.Author.Needs.{needs}
 use borrow.Author.Tests.{eq-eqb, ne-eqb}
 use Rattle.pins.specs.Pins.{pinnedAt}
-use Rattle.search.specs.Fast.{partnerPlace}
-use Rattle.search.proofs.FastLaws.{Stepped, stepped, none-pinned, byte-pins}
-use Rattle.search.proofs.step_place.Statement.{statement}
-use Rattle.search.proofs.step_place.Tie as tie
+use Rattle.places.specs.Places.{partnerPlace}
+use Rattle.places.proofs.Steps.{Stepped, stepped, none-pinned, byte-pins}
+use Rattle.places.proofs.step_place.Statement.{statement}
+use Rattle.places.proofs.step_place.Tie as tie
 
 -- where the neighbour is
 at : (s : tie.Start) → let a = s .args in Stepped (a .t) (a .t3) (a .p) (a .code)

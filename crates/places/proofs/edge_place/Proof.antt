@@ -1,18 +1,15 @@
--- `search::edge_place` meets its contract: each arm is the one that the neighbour and its pin pick. Assumes nothing.
+-- `places::edge_place` meets its contract: each arm is the one that the neighbour and its pin pick. Assumes nothing.
 use mathlib.Core.Path.{_≡_, sym, _∙_}
-use mathlib.Core.Bool.{true, false}
 use Prim.Native.Nat.{ℕ}
-use native.Mathlib.Omega.{arith}
 use borrow.Author.Needs.{needs}
 use Rattle.base.specs.Grid.{Inside}
-use Rattle.pins.specs.Pins.{pinnedAt}
 use Rattle.neighbour.specs.Neighbour.{neighbourOf}
 use Rattle.neighbour.specs.declared.Adjacent.the-variants.{Pixel}
 use Rattle.neighbour.proofs.Laws.{Beside}
-use Rattle.search.specs.Fast.{partnerPlace}
-use Rattle.search.proofs.Window.{window-limits, mask-fits, neighbour-inside}
-use Rattle.search.proofs.edge_place.Statement.{statement}
-use Rattle.search.proofs.edge_place.Tie as tie
+use Rattle.places.specs.Places.{partnerPlace}
+use Rattle.places.proofs.Window.{window-limits, mask-fits, neighbour-inside}
+use Rattle.places.proofs.edge_place.Statement.{statement}
+use Rattle.places.proofs.edge_place.Tie as tie
 
 abbrev start : tie.After-nx → tie.Start
 start c = c .before .before .before .before
@@ -55,9 +52,7 @@ returns-2 : tie.Need-returns-2
 unfolding partnerPlace
 returns-2 c =
     let n = c .before .before .before in
-    let a = start n .args in
-    let held : pinnedAt (a .pinned .now) (a .t .width) (nx n) (ny n) ≡ true = sym (c .before .is-pinned .ensures) ∙ c .if1 .taken in
-    rw (found n, held) (start n .pre .1 .0 .self)
+    rw (found n, ← c .before .is-pinned .ensures, c .if1 .taken) (start n .pre .1 .0 .self)
 
 local-requires : tie.Need-local-requires
 local-requires c κs =
@@ -69,9 +64,7 @@ returns-3 : tie.Need-returns-3
 unfolding partnerPlace
 returns-3 c =
     let n = c .before .before .before .before in
-    let a = start n .args in
-    let free : pinnedAt (a .pinned .now) (a .t .width) (nx n) (ny n) ≡ false = sym (c .before .before .is-pinned .ensures) ∙ c .before .if1 .left in
-    rw (found n, free) (c .local .ensures .0)
+    rw (found n, ← c .before .before .is-pinned .ensures, c .before .if1 .left) (c .local .ensures .0)
 
 pub edge-place-spec : {M : Type 1} → statement M
 edge-place-spec =

@@ -1,11 +1,11 @@
--- `search::local` meets its contract: it is the place of the one value of a pixel. Assumes nothing.
+-- `places::local` meets its contract: it is the place of the one value of a pixel. Assumes nothing.
 use mathlib.Core.Path.{_∙_}
 use native.Mathlib.Omega.{arith}
 use borrow.Author.Needs.{needs}
 use Rattle.base.proofs.GridLaws.{place-lt}
-use Rattle.search.proofs.Window.{place-index}
-use Rattle.search.proofs.local.Statement.{statement}
-use Rattle.search.proofs.local.Tie as tie
+use Rattle.places.proofs.Window.{place-index}
+use Rattle.places.proofs.local.Statement.{statement}
+use Rattle.places.proofs.local.Tie as tie
 
 place-requires : tie.Need-place-requires
 place-requires c κs = search needs

@@ -1,10 +1,10 @@
--- `search::is_amid` meets its contract: past every test the four bounds hold. Assumes nothing.
+-- `places::is_amid` meets its contract: past every test the four bounds hold. Assumes nothing.
 use native.Mathlib.Omega.{arith}
 use borrow.Author.Needs.{needs}
 use borrow.Author.Tests.{ltb-true}
-use Rattle.search.proofs.Order.{no}
-use Rattle.search.proofs.is_amid.Statement.{statement}
-use Rattle.search.proofs.is_amid.Tie as tie
+use Rattle.places.proofs.Window.{no}
+use Rattle.places.proofs.is_amid.Statement.{statement}
+use Rattle.places.proofs.is_amid.Tie as tie
 
 returns : tie.Need-returns
 returns c = λ e. no e

@@ -1,13 +1,13 @@
--- `search::spot_of` meets its contract: past the test all eight neighbours lie in the image, and so does the pixel above and left. Assumes nothing.
+-- `places::spot_of` meets its contract: past the test all eight neighbours lie in the image, and so does the pixel above and left. Assumes nothing.
 use mathlib.Core.Path.{refl}
 use Prim.Native.Nat.{_+_, _-_, _<_, _≤_}
 use native.Mathlib.Omega.{arith}
 use borrow.Author.Needs.{needs}
 use Rattle.base.specs.Grid.{Inside}
-use Rattle.search.proofs.Window.{window-limits, image-limits, image-inside, held-inside}
-use Rattle.search.proofs.Order.{no}
-use Rattle.search.proofs.spot_of.Statement.{statement}
-use Rattle.search.proofs.spot_of.Tie as tie
+use Rattle.places.proofs.Window.{window-limits, image-limits, image-inside, held-inside}
+use Rattle.places.proofs.Window.{no}
+use Rattle.places.proofs.spot_of.Statement.{statement}
+use Rattle.places.proofs.spot_of.Tie as tie
 
 abbrev start : tie.Then1 → tie.Start
 start c = c .before .before .before
