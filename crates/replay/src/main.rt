@@ -2,10 +2,10 @@
 // answers in that file's form, to be held to the copy of the Rust. What it reads and must write is made by
 //   grep -E '^(call|open|take|work|put_back|close|word|index) ' compare/replay.txt > crates/replay/stdin
 //   grep -E '^(refine|measure|opened|taken|worked|back|closed) ' compare/replay.txt > crates/replay/stdout
+use accepted::DbsStats;
 use base::Index;
 use lists::Given;
 use perceived::Measured;
-use refine::DbsStats;
 ghost use Prim.Native.Nat.{_<_, _≤_};
 ghost use lib.ListN.{length};
 

@@ -1,9 +1,9 @@
--- `refine::refine_accepted` meets its contract: what was prepared is what the walk starts from. Assumes nothing.
+-- `accepted::refine_accepted` meets its contract: what was prepared is what the walk starts from. Assumes nothing.
 use Rattle.input.specs.Input.{Input, input}
-use Rattle.refine.proofs.Laws.{ready-as, ends-as}
+use Rattle.accepted.proofs.Laws.{ready-as, ends-as}
 use borrow.Author.Needs.{needs}
-use Rattle.refine.proofs.refine_accepted.Statement.{statement}
-use Rattle.refine.proofs.refine_accepted.Tie as tie
+use Rattle.accepted.proofs.refine_accepted.Statement.{statement}
+use Rattle.accepted.proofs.refine_accepted.Tie as tie
 
 -- the input
 abbrev I : tie.Start → Input
