@@ -1,13 +1,13 @@
 -- `one_tap` meets its contract: where the tap reaches a sum, the part that it reaches is lent. Assumes nothing.
 use native.Mathlib.Omega.{arith}
-use Prim.Native.Nat.{_+_, _-_, _≤_, _<_, max, min}
-use mathlib.Core.Path.{_≡_, sym, ap, _∙_}
+use Prim.Native.Nat.{_+_, _-_, max, min}
+use mathlib.Core.Path.{ap, _∙_}
 use lib.ListN.{length}
 use borrow.Rule.Slice.PartMut.{mid-len}
-use Rattle.correlate.proofs.RowLaws.{Reach, reach, reach-none, reach-some}
+use Rattle.taps.proofs.RowLaws.{Reach, reach, reach-none, reach-some}
 use borrow.Author.Needs.{needs}
-use Rattle.correlate.proofs.one_tap.Statement.{statement}
-use Rattle.correlate.proofs.one_tap.Tie as tie
+use Rattle.taps.proofs.one_tap.Statement.{statement}
+use Rattle.taps.proofs.one_tap.Tie as tie
 
 -- the sums that the tap reaches
 reached : (c : tie.Else1) → Reach (c .before .before .before .before .before .before .before .before .args .a) (c .before .before .before .before .before .before .before .before .args .b) (length (c .before .before .before .before .before .before .before .before .args .values .now)) (c .before .before .before .before .before .before .before .before .args .lead) (c .before .before .before .before .before .before .before .before .args .d) (c .before .before .before .larger .result) (c .before .smaller .result)

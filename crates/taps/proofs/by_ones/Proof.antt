@@ -1,15 +1,15 @@
 -- `by_ones` meets its contract: after each turn the sums have the taps from `first` to d - 1. Assumes nothing.
 use native.Mathlib.Omega.{arith}
-use Prim.Native.Nat.{suc, _+_, _-_, _≤_}
+use Prim.Native.Nat.{_-_, _≤_}
 use mathlib.Core.Path.{_≡_, sym, subst}
 use borrow.Author.Needs.{needs}
 use lib.ListN.{length}
-use Rattle.correlate.specs.Correlate.{at, tapSum, Changed, RowFits}
-use Rattle.correlate.proofs.TapLaws.{tap-none}
-use Rattle.correlate.proofs.ChangedLaws.{changed-idle}
-use Rattle.correlate.proofs.RowLaws.{ones-more}
-use Rattle.correlate.proofs.by_ones.Statement.{statement}
-use Rattle.correlate.proofs.by_ones.Tie as tie
+use Rattle.taps.specs.Taps.{at, tapSum, Changed, RowFits}
+use Rattle.taps.proofs.TapLaws.{tap-none}
+use Rattle.taps.proofs.ChangedLaws.{changed-idle}
+use Rattle.taps.proofs.RowLaws.{ones-more}
+use Rattle.taps.proofs.by_ones.Statement.{statement}
+use Rattle.taps.proofs.by_ones.Tie as tie
 
 abbrev Inv-loop : tie.InvT-loop
 Inv-loop sums₀ a b values taps lead first d₀ sums d = (first ≤ d) × (d ≤ length taps) × Changed a b (λ i. tapSum (at values) (at taps) (length values) lead i first d) sums₀ sums

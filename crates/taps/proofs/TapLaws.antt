@@ -1,14 +1,13 @@
 -- Laws of `tapSum`: one tap more, taps that fall outside, four taps more, and sums in two parts. Assumes nothing.
 use Prim.Native.Nat.{ℕ, zero, suc, _+_, _-_, _≤_, _<_, min}
 use native.Mathlib.Omega.{arith}
-use mathlib.Core.Path.{_≡_, refl, sym, ap, _∙_}
+use mathlib.Core.Path.{_≡_, sym, ap, _∙_}
 use mathlib.Core.Logic.{⊎-elim}
 use lib.Ieee.{Float}
-use Rattle.base.specs.Loop.{fromTo}
 use Rattle.base.specs.F64.{_+f_, _*f_}
 use Rattle.base.proofs.Bounds.{lt-or-ge}
 use Rattle.base.proofs.LoopLaws.{fromTo-none, fromTo-more, fromTo-same}
-use Rattle.correlate.specs.Correlate.{tapTerm, tapSum}
+use Rattle.taps.specs.Taps.{tapTerm, tapSum}
 
 module _ (value tap : ℕ → Float) (m lead p : ℕ) where
   abbrev sum : ℕ → ℕ → Float → Float

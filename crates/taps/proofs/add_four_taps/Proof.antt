@@ -4,11 +4,11 @@ use Prim.Native.Nat.{_-_, _≤_, _<_}
 use native.Mathlib.Omega.{arith}
 use borrow.Author.Needs.{needs}
 use lib.ListN.{length, length-set}
-use lib.Ieee.{Float, nan}
+use lib.Ieee.{nan}
 use Rattle.base.proofs.TableLaws.{filled, fill-none, fill-turn, fill-rest, fill-done}
-use Rattle.correlate.specs.Correlate.{at, fourTaps}
-use Rattle.correlate.proofs.add_four_taps.Statement.{statement}
-use Rattle.correlate.proofs.add_four_taps.Tie as tie
+use Rattle.taps.specs.Taps.{at, fourTaps}
+use Rattle.taps.proofs.add_four_taps.Statement.{statement}
+use Rattle.taps.proofs.add_four_taps.Tie as tie
 
 abbrev Inv-loop : tie.InvT-loop
 Inv-loop sums₀ values k0 k1 k2 k3 i₀ i-end sums i = (i ≤ i-end) × (i-end ≡ length sums₀) × (length sums ≡ length sums₀) × (sums ≡ filled i (fourTaps sums₀ values k0 k1 k2 k3) sums₀)

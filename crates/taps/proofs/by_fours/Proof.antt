@@ -1,16 +1,16 @@
 -- `by_fours` meets its contract: after each turn the sums have the first d taps. Assumes nothing.
 use native.Mathlib.Omega.{arith}
 use Prim.Native.Nat.{_+_, _-_, _≤_}
-use mathlib.Core.Path.{_≡_, sym, _∙_}
+use mathlib.Core.Path.{sym}
 use borrow.Author.Needs.{needs}
 use borrow.Rule.Slice.PartMut.{mid-len}
 use lib.ListN.{length}
-use Rattle.correlate.specs.Correlate.{at, tapSum, Changed}
-use Rattle.correlate.proofs.TapLaws.{tap-none, tap-four}
-use Rattle.correlate.proofs.ChangedLaws.{changed-idle, changed-then}
-use Rattle.correlate.proofs.RowLaws.{four-some}
-use Rattle.correlate.proofs.by_fours.Statement.{statement}
-use Rattle.correlate.proofs.by_fours.Tie as tie
+use Rattle.taps.specs.Taps.{at, tapSum, Changed}
+use Rattle.taps.proofs.TapLaws.{tap-none, tap-four}
+use Rattle.taps.proofs.ChangedLaws.{changed-idle, changed-then}
+use Rattle.taps.proofs.RowLaws.{four-some}
+use Rattle.taps.proofs.by_fours.Statement.{statement}
+use Rattle.taps.proofs.by_fours.Tie as tie
 
 abbrev Inv-loop : tie.InvT-loop
 Inv-loop sums₀ a b values taps lead d₀ sums d = (d ≤ length taps) × Changed a b (λ i. tapSum (at values) (at taps) (length values) lead i 0 d) sums₀ sums

@@ -6,10 +6,10 @@ use mathlib.Core.Logic.{⊎-elim}
 use mathlib.Core.List.{List}
 use lib.ListN.{length}
 use lib.Ieee.{Float, nan}
-use borrow.Rule.Slice.PartMut.{putMid, midOf, same-len-mid, mid-len}
+use borrow.Rule.Slice.PartMut.{putMid, same-len-mid, mid-len}
 use Rattle.base.proofs.Bounds.{lt-or-ge}
 use Rattle.base.proofs.PartLaws.{get-part, get-before, get-after}
-use Rattle.correlate.specs.Correlate.{at, Changed}
+use Rattle.taps.specs.Taps.{at, Changed}
 
 -- a change that changes nothing
 pub changed-idle : (a b : ℕ) (f : ℕ → Float → Float) (l : List Float) → ((i : ℕ) → a ≤ i → i < b → (s : Float) → f i s ≡ s) → Changed a b f l l

@@ -4,11 +4,11 @@ use Prim.Native.Nat.{_-_, _≤_, _<_}
 use native.Mathlib.Omega.{arith}
 use borrow.Author.Needs.{needs}
 use lib.ListN.{length, length-set}
-use lib.Ieee.{Float, nan}
+use lib.Ieee.{nan}
 use Rattle.base.proofs.TableLaws.{filled, fill-none, fill-turn, fill-rest, fill-done}
-use Rattle.correlate.specs.Correlate.{at, oneTap}
-use Rattle.correlate.proofs.add_tap.Statement.{statement}
-use Rattle.correlate.proofs.add_tap.Tie as tie
+use Rattle.taps.specs.Taps.{at, oneTap}
+use Rattle.taps.proofs.add_tap.Statement.{statement}
+use Rattle.taps.proofs.add_tap.Tie as tie
 
 abbrev Inv-loop : tie.InvT-loop
 Inv-loop sums₀ values k i₀ i-end sums i = (i ≤ i-end) × (i-end ≡ length sums₀) × (length sums ≡ length sums₀) × (sums ≡ filled i (oneTap sums₀ values k) sums₀)
