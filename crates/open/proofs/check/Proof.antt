@@ -1,11 +1,7 @@
 -- `check` meets its contract: the tests of the input come first, and those of the buffers only once these have passed. Assumes nothing.
-use Prim.Native.Nat.{_*_}
 use native.Mathlib.Omega.{arith}
-use mathlib.Core.Path.{_≡_, sym, ap, _∙_}
-use lib.ListN.{length}
-use Rattle.base.specs.Refusal.{judge}
-use Rattle.tiling.specs.Tiling.{tiles}
-use Rattle.input.specs.Input.{Input, input, pixelCount, inkCount, openRunTests}
+use mathlib.Core.Path.{sym}
+use Rattle.input.specs.Input.{Input, input, pixelCount, inkCount}
 use Rattle.open.proofs.Laws.{refused-first, run-judged, few, tiling-found, limits}
 use borrow.Author.Needs.{needs}
 use Rattle.open.proofs.check.Statement.{statement}
@@ -54,11 +50,9 @@ returns-2 c =
     let at-check-input = earlier .before in
     let start = at-check-input .before .before .before .before .before in
     let a = start .args in
-    let found = tiling-found (I (start)) _ (at-check-input .check-input .ensures) (c .before .before .before .if1 .left) in
-    let count = c .before .tile-count .ensures ∙ ap tiles found in (
+    let found = tiling-found (I (start)) (at-check-input .check-input .result) (at-check-input .check-input .ensures) (c .before .before .before .if1 .left) in (
       run-judged (I (start)) _ (at-check-input .check-input .ensures) (a .max-passes) _ (a .cpe-len) (a .cpp-len) (a .accepted-per-pass-len) (a .tile-states-len) (a .deltas-len) (a .inks-len) (c .before .before .before .if1 .left)
-          (c .check-open .ensures
-          ∙ ap (λ n. judge (openRunTests (a .max-passes) (3 * pixelCount (I (start))) (3 * inkCount (I (start))) n (a .cpe-len) (a .cpp-len) (a .accepted-per-pass-len) (a .tile-states-len) (a .deltas-len) (a .inks-len))) count),
+          (rw (c .before .tile-count .ensures, found) at (c .check-open .ensures)),
       λ z. sym found,
     )
 

@@ -1,6 +1,6 @@
 -- `open` meets its contract: a refusal keeps all, and a valid open prepares the walk and starts the job. Assumes nothing.
-use mathlib.Core.Path.{_≡_, sym, ap₂, _∙_}
-use Rattle.input.specs.Input.{Input, input}
+use mathlib.Core.Path.{ap₂, _∙_}
+use Rattle.input.specs.Input.{input}
 use Rattle.job.specs.Open.{Opening, opening, opened, openTestsOf}
 use Rattle.job.proofs.Answers.{open-answers}
 use Rattle.open.proofs.Laws.{accepts, opens-as}
@@ -45,7 +45,7 @@ prepare-requires c κs =
     let earlier-4 = at-check .before .before .before .before .before in
     let earlier-5 = earlier-4 .before .before .before .before .before in
     let earlier = earlier-5 .before in
-    accepts (O (earlier)) _ (at-check .check .ensures .0) (at-if1 .if1 .left) _ (sym (at-check .check .ensures .1 (at-if1 .if1 .left)))
+    accepts (O (earlier)) (at-check .check .result) (at-check .check .ensures .0) (at-check .check .ensures .1) (at-if1 .if1 .left)
 
 same-length : tie.Need-same-length
 same-length c = search needs
@@ -75,7 +75,7 @@ returns-2 c =
     let earlier-4 = at-check .before .before .before .before .before in
     let earlier-5 = earlier-4 .before .before .before .before .before in
     let earlier = earlier-5 .before in
-    opens-as (O (earlier)) _ (at-check .check .ensures .0) (at-if1 .if1 .left) _ _ _ _ _ _ _ (sym (at-check .check .ensures .1 (at-if1 .if1 .left))) (at-prepare .prepare .ensures) (at-clear-states .clear-states .ensures) (at-clear-deltas .clear-deltas .ensures)
+    opens-as (O (earlier)) (at-check .check .result) (at-check .check .ensures .0) (at-check .check .ensures .1) (at-if1 .if1 .left) _ _ _ _ _ _ (at-prepare .prepare .ensures) (at-clear-states .clear-states .ensures) (at-clear-deltas .clear-deltas .ensures)
 
 pub open-spec : {M : Type 1} → statement M
 open-spec =
