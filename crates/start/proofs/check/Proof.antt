@@ -2,10 +2,10 @@
 use native.Mathlib.Omega.{arith}
 use mathlib.Core.Path.{sym}
 use Rattle.input.specs.Input.{Input, input, pixelCount, inkCount}
-use Rattle.open.proofs.Laws.{refused-first, run-judged, few, tiling-found, limits}
+use Rattle.start.proofs.Laws.{refused-first, run-judged, few, tiling-found, limits}
 use borrow.Author.Needs.{needs}
-use Rattle.open.proofs.check.Statement.{statement}
-use Rattle.open.proofs.check.Tie as tie
+use Rattle.start.proofs.check.Statement.{statement}
+use Rattle.start.proofs.check.Tie as tie
 
 abbrev I : tie.Start → Input
 I s = input (s .args .width) (s .args .height) (s .args .pixels .now) (s .args .palette .now) (s .args .indices .now) (s .args .pinned .now) (s .args .params)

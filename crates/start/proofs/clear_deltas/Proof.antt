@@ -6,8 +6,8 @@ use borrow.Author.Needs.{needs}
 use lib.ListN.{length, length-set}
 use Rattle.base.specs.F64.{f0}
 use Rattle.base.proofs.TableLaws.{filled, fill-none, fill-turn, fill-done, replicate-table}
-use Rattle.open.proofs.clear_deltas.Statement.{statement}
-use Rattle.open.proofs.clear_deltas.Tie as tie
+use Rattle.start.proofs.clear_deltas.Statement.{statement}
+use Rattle.start.proofs.clear_deltas.Tie as tie
 
 abbrev Inv-loop : tie.InvT-loop
 Inv-loop deltas₀ i₀ i-end deltas i = (i ≤ i-end) × (i-end ≡ length deltas₀) × (length deltas ≡ length deltas₀) × (deltas ≡ filled i (λ j. f0) deltas₀)

@@ -3,10 +3,10 @@ use mathlib.Core.Path.{ap₂, _∙_}
 use Rattle.input.specs.Input.{input}
 use Rattle.job.specs.Open.{Opening, opening, opened, openTestsOf}
 use Rattle.job.proofs.Answers.{open-answers}
-use Rattle.open.proofs.Laws.{accepts, opens-as}
+use Rattle.start.proofs.Laws.{accepts, opens-as}
 use borrow.Author.Needs.{needs}
-use Rattle.open.proofs.open.Statement.{statement}
-use Rattle.open.proofs.open.Tie as tie
+use Rattle.start.proofs.open.Statement.{statement}
+use Rattle.start.proofs.open.Tie as tie
 
 abbrev O : tie.Start → Opening
 O s =

@@ -5,8 +5,8 @@ use mathlib.Core.Path.{_≡_, refl, sym, _∙_}
 use borrow.Author.Needs.{needs}
 use lib.ListN.{length, length-set}
 use Rattle.base.proofs.TableLaws.{filled, fill-none, fill-turn, fill-done, replicate-table}
-use Rattle.open.proofs.clear_states.Statement.{statement}
-use Rattle.open.proofs.clear_states.Tie as tie
+use Rattle.start.proofs.clear_states.Statement.{statement}
+use Rattle.start.proofs.clear_states.Tie as tie
 
 abbrev Inv-loop : tie.InvT-loop
 Inv-loop tile-states₀ i₀ i-end tile-states i = (i ≤ i-end) × (i-end ≡ length tile-states₀) × (length tile-states ≡ length tile-states₀) × (tile-states ≡ filled i (λ j. 0) tile-states₀)
