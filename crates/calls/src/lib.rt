@@ -1,9 +1,9 @@
 // Calls of refine and of measure: a line of compare/replay.txt is a call of both on parts of buffers, and their answers are
 // written in that file's form. In a line, numbers from 0 count its words.
+use accepted::DbsStats;
 use base::Index;
 use given::Given;
 use perceived::Measured;
-use refine::DbsStats;
 
 const STDOUT: i32 = 1;
 

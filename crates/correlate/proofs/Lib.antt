@@ -1,4 +1,2 @@
-pub mod TapLaws
-pub mod ChangedLaws
 pub mod RowLaws
 pub mod SpreadLaws

@@ -10,9 +10,9 @@ use lib.Ieee.{Float}
 use borrow.Rule.Slice.PartMut.{putMid, midOf, mid-len}
 use Rattle.base.proofs.Bounds.{lt-or-ge}
 use Rattle.correlate.specs.declared.Lines.{Lines}
-use Rattle.correlate.specs.Correlate.{at, tapSum, rowTaps, Changed, cellAt, lineOf, Spread}
-use Rattle.correlate.proofs.TapLaws.{tap-same}
-use Rattle.correlate.proofs.ChangedLaws.{changed-part}
+use Rattle.correlate.specs.Correlate.{at, tapSum, Changed, cellAt, lineOf, Spread}
+use Rattle.taps.proofs.TapLaws.{tap-same}
+use Rattle.taps.proofs.ChangedLaws.{changed-part}
 use Rattle.correlate.proofs.RowLaws.{at-mid}
 
 -- ---- lines

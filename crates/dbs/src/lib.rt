@@ -1,11 +1,11 @@
 // The C interface (include/dbs.h): the static library. Numbers pass as themselves, a slice as a pointer
 // and then its number of elements, answers as structs by value. Each function hands on to the crate of its
 // call, whose contract it has.
+use accepted::DbsStats;
 use base::Index;
 use base::Status;
 use eye::DbsParams;
 use perceived::Measured;
-use refine::DbsStats;
 use work::DbsWorked;
 ghost use mathlib.Core.List.{[]};
 ghost use mathlib.Core.Path.{_≡_};

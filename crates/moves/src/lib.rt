@@ -52,7 +52,7 @@ fn put_index(indices: &mut [Index], w: Rect, x: usize, y: usize, j: usize)
     requires { ⌜ length (now indices) ≡ area w ⌝ }
     ensures { λ _. ⌜ now (indices .exit) ≡ put 0 1 w (now (indices .entry)) x y 0 j ⌝ }
 {
-    let m = search::local(w, x, y);
+    let m = places::local(w, x, y);
     indices[m] = j as Index;
 }
 

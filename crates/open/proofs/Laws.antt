@@ -1,104 +1,16 @@
--- What the code makes, step by step, is what `openOf` says. Assumes nothing.
-use Prim.Native.Nat.{ℕ, _*_, _/_, _≤_}
-use native.Mathlib.Omega.{arith}
-use mathlib.Core.Path.{_≡_, sym, ap, _∙_}
+-- An open on a run that is refused is what `openRun` says. Assumes nothing.
+use mathlib.Core.Path.{_≡_}
 use mathlib.Core.List.{List, [], _∷_}
-use lib.Dec.{eqb}
-use lib.ListN.{length, replicate}
-use lib.Ieee.{Float}
+use Prim.Native.Nat.{ℕ}
 use Rattle.base.specs.declared.Status.{Status}
-use Rattle.base.specs.F64.{f0}
-use Rattle.base.specs.Refusal.{judge, accepted}
-use Rattle.base.proofs.AnswerLaws.{is-accepted, not-accepted}
-use Rattle.base.proofs.Bounds.{image-product}
-use Rattle.eye.specs.declared.Eye.{Eye}
-use Rattle.tiling.specs.declared.Tiling.{Tiling}
-use Rattle.tiling.specs.Tiling.{Limits, tiles}
-use Rattle.input.specs.Input.{Input, pixelCount, inkCount, inputTests, checkedOf, openRunTests, openTests}
-use Rattle.input.specs.Valid.{Valid, ValidOpen}
-use Rattle.input.proofs.InputLaws.{checked-accepted, input-refused, input-accepted}
-use Rattle.input.proofs.Validity.{valid-iff, valid-radii, open-passes}
-use Rattle.prepare.specs.Prepare.{ReadyToPrepare, Prepared, tilingOf}
-use Rattle.refine.proofs.Laws.{tiling-is}
-use Rattle.job.specs.declared.JobRecord.{JobRecord}
-use Rattle.job.specs.Record.{plan, jobRecord}
+use Rattle.base.specs.Refusal.{judge}
+use Rattle.base.proofs.AnswerLaws.{not-accepted}
 use Rattle.job.specs.Words.{runTest}
-use Rattle.job.specs.Boundary.{wordsOpened, openedOver, openRun}
-use Rattle.job.specs.Open.{Opening, opened, openTestsOf, firstRecord, openOf}
-use Rattle.job.proofs.Answers.{open-answers}
-use Rattle.words.proofs.RunLaws.{refused, written-ok}
-
--- ---- the tests
-
--- the eye that the first tests found
-module _ (I : Input) (e : Eye) (q : e ≡ checkedOf I) where
-  found : e .status ≡ checkedOf I .status
-  found = ap (λ (v : Eye). v .status) q
-
-  module _ (passes count cpe cpp counts states deltas inks : ℕ) where
-    pub refused-first : (e .status .number ≡ 0 → ⊥) → e .status ≡ judge (openTests I passes count cpe cpp counts states deltas inks)
-    unfolding openTests
-    refused-first f = found ∙ sym (input-refused I _ (rw found at f))
-
-    pub run-judged : e .status .number ≡ 0 → {s : Status} →
-        s ≡ judge (openRunTests passes (3 * pixelCount I) (3 * inkCount I) count cpe cpp counts states deltas inks) →
-        s ≡ judge (openTests I passes count cpe cpp counts states deltas inks)
-    unfolding openTests
-    run-judged z p = p ∙ sym (input-accepted I _ (rw found at z))
-
-  module _ (z : e .status .number ≡ 0) where
-    passed : judge (inputTests I) ≡ accepted
-    passed = checked-accepted I (ap (λ (v : Eye). v .status .number) (sym q) ∙ z)
-
-    valid : Valid I
-    valid = valid-iff I .0 passed
-
-    pub few : I .height * I .width ≤ 16777216
-    few = image-product (I .height) (I .width) (valid .height-most) (valid .width-most)
-
-    pub tiling-found : _≡_ {A = Tiling} (record { width = I .width; height = I .height; lum = e .«lum_radius»; chroma = e .«chroma_radius» }) (tilingOf I)
-    tiling-found = tiling-is I e q z
-
-    pub limits : Limits (tilingOf I)
-    unfolding tilingOf
-    limits =
-        let r = valid-radii I valid in
-        record { wide = valid .width-least; width-limit = valid .width-most; height-limit = valid .height-most; lum-limit = r .0 .high; chroma-limit = r .1 .high }
-
--- ---- accepted
-
-module _ (O : Opening) (s : Status) (e : s ≡ judge (openTestsOf O)) (z : s .number ≡ 0) where
-  pub valid-open : ValidOpen (O .input) (O .passes) (tiles (tilingOf (O .input))) (length (O .cpe)) (length (O .cpp)) (length (O .counts)) (length (O .states)) (length (O .deltas)) (length (O .inks))
-  unfolding openTestsOf
-  valid-open = open-passes _ _ _ _ _ _ _ _ _ .0 (open-answers O .passed s e z)
-
-  pub accepts : (T : Tiling) → T ≡ tilingOf (O .input) → ReadyToPrepare (O .input) T (length (O .inks)) (length (O .cpp)) (length (O .cpe))
-  accepts T t =
-      let v = valid-open in
-      record {
-        passes = valid-iff (O .input) .1 (v .refine .valid);
-        tiling = t;
-        inks-length = v .refine .inks-length;
-        cpp-length = v .refine .cpp-length;
-        cpe-length = v .refine .cpe-length;
-      }
-
-  pub opens-as : (T : Tiling) (inks cpp cpe : List Float) (error : Float) (states : List ℕ) (deltas : List Float) →
-      T ≡ tilingOf (O .input) → Prepared (O .input) (O .cpp) inks cpp cpe error → states ≡ replicate (length (O .states)) 0 → deltas ≡ replicate (length (O .deltas)) f0 →
-      opened s (jobRecord (plan T (length (O .input .palette) / 3) (O .passes) error) 0 0 0 error (eqb (O .passes) 0)) cpe cpp states deltas inks ≡ openOf O
-  unfolding firstRecord inkCount
-  opens-as T inks cpp cpe error states deltas t p b d =
-      let v = valid-open in
-      rw (t, p .inks-is, p .cpp-is, p .cpe-is, p .error-is, b, d, v .states-length, v .deltas-length) (open-answers O .made s e z)
-
--- ---- on a run, which an accepted open writes
+use Rattle.job.specs.Boundary.{openRun}
+use Rattle.job.specs.Open.{Opening, opened}
+use Rattle.words.proofs.RunLaws.{refused}
 
 module _ (words : List ℕ) (O : Opening) {s : Status} (e : s ≡ judge (runTest words ∷ [])) where
   pub run-refused : (s .number ≡ 0 → ⊥) → opened s words (O .cpe) (O .cpp) (O .states) (O .deltas) (O .inks) ≡ openRun words O
   unfolding openRun
   run-refused f = rw (← e, not-accepted s (refused f))
-
-  pub run-written : s .number ≡ 0 → {a : Status} {r : JobRecord} {cpe cpp : List Float} {states : List ℕ} {deltas inks : List Float} → opened a r cpe cpp states deltas inks ≡ openOf O →
-      {s′ : Status} {words′ : List ℕ} → s′ ≡ a → words′ ≡ wordsOpened words a r → opened s′ words′ cpe cpp states deltas inks ≡ openRun words O
-  unfolding openRun openedOver
-  run-written z q b w = rw (b, w, written-ok words e z, is-accepted, ← q)

@@ -23,8 +23,8 @@ use Rattle.error.specs.Error.{scene, SceneFits}
 use Rattle.input.specs.Input.{Input, input, pixelCount, inputTests, imageTests, inkTests, checkedOf}
 use Rattle.input.specs.Valid.{Valid}
 use Rattle.input.specs.Rows.{measureRows}
-use Rattle.input.proofs.InputLaws.{input-numbered, checked-status}
-use Rattle.base.proofs.JudgeLaws.{passes-append, judge-zero}
+use Rattle.input.proofs.InputLaws.{input-numbered, checked-status, checked-accepted}
+use Rattle.base.proofs.JudgeLaws.{passes-append}
 use Rattle.base.proofs.AnswerLaws.{Answers, answers, judged}
 use Rattle.input.proofs.Validity.{valid-iff, valid-passes}
 use Rattle.input.proofs.RowsOf.{measure-rows}
@@ -107,5 +107,8 @@ module _ (I : Input) (e : Eye) (q : e ≡ checkedOf I) where
   pub refused-is : (e .status .number ≡ 0 → ⊥) → refusal (e .status) ≡ measureOf I
   refused-is n = rw (← verdict) (sym (measure-answers I .keeps (λ a. n (ap (λ (s : Status). s .number) (sym verdict ∙ a)))))
 
+  pub passed : e .status .number ≡ 0 → judge (inputTests I) ≡ accepted
+  passed z = checked-accepted I (rw q at z)
+
   pub accepted-is : e .status .number ≡ 0 → measuredAs (measuredError I) ≡ measureOf I
-  accepted-is z = sym (measure-answers I .leaves (judge-zero (inputTests I) (input-numbered I) (ap (λ (s : Status). s .number) verdict ∙ z)))
+  accepted-is z = sym (measure-answers I .leaves (passed z))

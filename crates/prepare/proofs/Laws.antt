@@ -104,6 +104,9 @@ module _ (I : Input) (T : Tiling) (inks cpp₀ cpp : List Float) (t : T ≡ tili
   unfolding cpeOf sceneOf inksOf cppOf
   field-is = rw (t, i, k)
 
+  pub field-length : (cpe : List Float) → cpe ≡ fieldOf T (scene (I .pixels) (I .indices) (I .pinned) inks) cpp → length cpe ≡ 3 * (T .height * T .width)
+  field-length cpe e = rw e (length-field T (scene (I .pixels) (I .indices) (I .pinned) inks) cpp)
+
   pub error-is : (cpe : List Float) → cpe ≡ cpeOf I cpp₀ → initialError T (scene (I .pixels) (I .indices) (I .pinned) inks) cpe ≡ errorOf I cpp₀
   unfolding errorOf sceneOf inksOf
   error-is cpe e = rw (t, i, e)

@@ -1,7 +1,8 @@
 -- What the code makes, step by step, is what `refineOf` says: the two tests one after the other are the one list, and the walk of what was prepared is run one. Assumes nothing.
-use Prim.Native.Nat.{ℕ, _*_, _/_}
+use Prim.Native.Nat.{ℕ, _*_}
 use native.Mathlib.Omega.{arith}
-use mathlib.Core.Path.{_≡_, refl, sym, ap, _∙_, subst}
+use mathlib.Core.Path.{_≡_, refl, sym, _∙_, subst}
+use mathlib.Core.Logic.{_≢_}
 use mathlib.Core.Bool.{Bool, true, false, cond, not}
 use mathlib.Core.List.{List}
 use lib.ListN.{length}
@@ -12,20 +13,15 @@ use Rattle.base.specs.declared.Status.{Status}
 use Rattle.base.specs.Refusal.{judge, accepted, Passes}
 use Rattle.base.proofs.RefusalLaws.{Numbered, passes-of}
 use Rattle.tiling.specs.declared.Tiling.{Tiling}
-use Rattle.tiling.specs.Tiling.{image}
 use Rattle.eye.specs.declared.Eye.{Eye}
 use Rattle.eye.specs.Constants.{alphaLum, alphaChroma}
 use Rattle.eye.specs.Eye.{kernelRadius, eye}
-use Rattle.input.specs.Input.{Input, input, pixelCount, inkCount, inputTests, checkedOf, runTests, refineRunTests, refineTests}
+use Rattle.input.specs.Input.{Input, inputTests, pixelCount, inkCount, checkedOf, runTests, refineRunTests, refineTests}
 use Rattle.input.proofs.InputLaws.{checked-accepted, checked-radii, input-refused, input-accepted}
 use Rattle.base.proofs.JudgeLaws.{judge-zero}
 use Rattle.base.proofs.AnswerLaws.{Answers, answers}
 use Rattle.input.proofs.Validity.{refine-numbered}
-use Rattle.search.specs.Shared.{shared, Ready}
-use Rattle.walk.specs.declared.Outcome.{Outcome}
-use Rattle.walk.specs.Walk.{walkEnd, Refines}
-use Rattle.prepare.specs.Prepare.{Prepared, tilingOf, sharedOf, runOne}
-use Rattle.prepare.proofs.Laws.{start-ready}
+use Rattle.prepare.specs.Prepare.{tilingOf}
 use Rattle.refine.specs.Refine.{refinement, refineStatus, refusedStats, refineAccepted, refineOf}
 
 -- ---- the tests
@@ -52,21 +48,32 @@ module _ (I : Input) (passes : ℕ) (cpe cpp : List Float) (counts : List ℕ) (
   unfolding refineOf refineAccepted
   refine-answers = answers refineStatus (λ s. refinement (refusedStats s) (I .indices) cpe cpp counts inks) (λ s. refl) verdict (λ s. refineAccepted I passes cpp counts) refl
 
-  -- a refusal of either
-  pub refused-is : (s : Status) → verdict ≡ s → (s .number ≡ 0 → ⊥) → refinement (refusedStats s) (I .indices) cpe cpp counts inks ≡ refineOf I passes cpe cpp counts inks
-  refused-is s e n = rw (← e) (sym (refine-answers .keeps (λ a. n (ap (λ (u : Status). u .number) (sym e ∙ a)))))
-
-  pub input-verdict : (checkedOf I .status .number ≡ 0 → ⊥) → verdict ≡ checkedOf I .status
+  input-verdict : (checkedOf I .status .number ≡ 0 → ⊥) → verdict ≡ checkedOf I .status
   unfolding refineTests
   input-verdict n = input-refused I _ n
 
-  pub run-verdict : checkedOf I .status .number ≡ 0 → verdict ≡ run
+  run-verdict : checkedOf I .status .number ≡ 0 → verdict ≡ run
   unfolding refineTests
   run-verdict e = input-accepted I _ e
 
-  -- both accepted
-  pub accepted-is : verdict .number ≡ 0 → refineAccepted I passes cpp counts ≡ refineOf I passes cpe cpp counts inks
-  accepted-is e = sym (refine-answers .leaves (judge-zero _ (refine-numbered I passes (length cpe) (length cpp) (length counts) (length inks)) e))
+  -- a refusal of either
+  refused-is : verdict ≢ accepted → refinement (refusedStats verdict) (I .indices) cpe cpp counts inks ≡ refineOf I passes cpe cpp counts inks
+  refused-is n = sym (refine-answers .keeps n)
+
+  -- by the input's tests, as their eye says
+  pub input-refused-is : (e : Eye) → e ≡ checkedOf I → (e .status .number ≡ 0 → ⊥) →
+      refinement (refusedStats (e .status)) (I .indices) cpe cpp counts inks ≡ refineOf I passes cpe cpp counts inks
+  input-refused-is e q n =
+      let c : checkedOf I .status .number ≡ 0 → ⊥ = rw q at n in
+      let v : verdict ≡ e .status = rw q (input-verdict c) in
+      rw (← v) (refused-is (λ a. n (rw (← v, a) refl)))
+
+  -- by the run's
+  pub run-refused-is : (e : Eye) → e ≡ checkedOf I → e .status .number ≡ 0 → (r : Status) → r ≡ run → (r .number ≡ 0 → ⊥) →
+      refinement (refusedStats r) (I .indices) cpe cpp counts inks ≡ refineOf I passes cpe cpp counts inks
+  run-refused-is e q z r p n =
+      let v : verdict ≡ r = rw p (run-verdict (rw q at z)) in
+      rw (← v) (refused-is (λ a. n (rw (← v, a) refl)))
 
   -- the lengths of the buffers
   pub record Lengths : Type 0 where
@@ -75,11 +82,11 @@ module _ (I : Input) (passes : ℕ) (cpe cpp : List Float) (counts : List ℕ) (
     pub counts-length : length counts ≡ passes
     pub inks-length : length inks ≡ 3 * inkCount I
 
-  pub lengths-of : run .number ≡ 0 → Lengths
+  pub lengths-of : (r : Status) → r ≡ run → r .number ≡ 0 → Lengths
   unfolding refineRunTests runTests Passes Numbered
-  lengths-of e =
+  lengths-of r q z =
       let tests = refineRunTests passes (3 * pixelCount I) (3 * inkCount I) (length cpe) (length cpp) (length counts) (length inks) in
-      let p = passes-of tests (omega arith) (judge-zero tests (omega arith) e) in
+      let p = passes-of tests (omega arith) (judge-zero tests (omega arith) (rw q at z)) in
       record {
         cpe-length = same _ _ (p .1 .0);
         cpp-length = same _ _ (p .1 .1 .0);
@@ -87,28 +94,26 @@ module _ (I : Input) (passes : ℕ) (cpe cpp : List Float) (counts : List ℕ) (
         inks-length = same _ _ (p .1 .1 .1 .1 .0);
       }
 
+  -- both accepted
+  pub accepted-is : (e : Eye) → e ≡ checkedOf I → e .status .number ≡ 0 → (r : Status) → r ≡ run → r .number ≡ 0 →
+      refineAccepted I (length counts) cpp counts ≡ refineOf I passes cpe cpp counts inks
+  accepted-is e q z r p o =
+      let v : verdict ≡ r = rw p (run-verdict (rw q at z)) in
+      let zero : verdict .number ≡ 0 = rw v o in
+      let l = lengths-of r p o in
+      rw (l .counts-length) (sym (refine-answers .leaves (judge-zero _ (refine-numbered I passes (length cpe) (length cpp) (length counts) (length inks)) zero)))
+
 -- ---- an accepted input
+
+-- what the eye that was found says
+pub eye-accepts : (I : Input) (e : Eye) → e ≡ checkedOf I → e .status .number ≡ 0 → judge (inputTests I) ≡ accepted
+eye-accepts I e q z = checked-accepted I (rw q at z)
 
 -- the tiling of the eye that was found
 pub tiling-is : (I : Input) (e : Eye) → e ≡ checkedOf I → e .status .number ≡ 0 →
     _≡_ {A = Tiling} (record { width = I .width; height = I .height; lum = e .«lum_radius»; chroma = e .«chroma_radius» }) (tilingOf I)
 unfolding tilingOf
 tiling-is I e q z =
-    let ok = checked-accepted I (ap (λ (v : Eye). v .status .number) (sym q) ∙ z) in
+    let ok = eye-accepts I e q z in
     let r : e ≡ eye accepted (kernelRadius alphaLum (I .params)) (kernelRadius alphaChroma (I .params)) = q ∙ checked-radii I ok in
     rw r
-
-module _ (I : Input) (T : Tiling) (inks cpp₀ cpp cpe : List Float) (error : Float) (t : T ≡ tilingOf I) (p : Prepared I cpp₀ inks cpp cpe error) where
-  -- the walk can start
-  pub ready-as : judge (inputTests I) ≡ accepted → length cpp₀ ≡ 8450 → Ready (shared T (length (I .palette) / 3) (I .pinned) inks cpp) (image T) (length cpe) (I .indices)
-  unfolding sharedOf inkCount
-  ready-as ok e = rw (t, p .inks-is, p .cpp-is, p .cpe-is) (start-ready I ok cpp₀ e)
-
-  -- and ends as run one does
-  pub ends-as : (counts : List ℕ) (cpe′ : List Float) (indices′ counts′ : List ℕ) (r : Outcome) →
-      Refines (shared T (length (I .palette) / 3) (I .pinned) inks cpp) cpe (I .indices) counts error cpe′ indices′ counts′ r →
-      refinement (record { number = 0; place = 0; passes = r .passes; «initial_error» = error; «final_error» = r .error }) indices′ cpe′ cpp counts′ inks ≡ refineAccepted I (length counts) cpp₀ counts
-  unfolding refineAccepted runOne sharedOf inkCount walkEnd
-  ends-as counts cpe′ indices′ counts′ r w =
-      let z = rw (t, p .inks-is, p .cpp-is, p .cpe-is, p .error-is) at w in
-      rw (z .cpe-is, z .indices-is, z .counts-is, z .outcome-is, p .inks-is, p .cpp-is, p .error-is)

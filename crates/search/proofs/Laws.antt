@@ -21,7 +21,8 @@ use Rattle.search.specs.declared.Move.the-variants.{Stay, Toggle, Swap}
 use Rattle.search.specs.Shared.{Shared, cpeAt, indexAt}
 use Rattle.search.specs.Search.{eligible, partnerOf, betterOf, noMove, siteAt, tryToggle, toggles, swapWith, trySwap, swaps, evaluateOf, FairMove}
 use Rattle.search.proofs.Order.{lt-trans}
-pub use Rattle.search.proofs.Window.{place-index, cpe-values, window-limits, index-named, mask-fits, ready-limits, ready-mask, ready-index, held-inside, neighbour-inside, partner-is}
+pub use Rattle.places.proofs.Window.{place-index, window-limits, mask-fits, held-inside, neighbour-inside}
+pub use Rattle.search.proofs.Window.{cpe-values, index-named, ready-limits, ready-mask, ready-index, partner-is}
 
 -- ---- what every move that is fair and cheaper keeps, the best move has
 

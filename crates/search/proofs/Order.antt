@@ -8,9 +8,7 @@ use borrow.Author.Tests.{ltb-true, lt-ltb}
 use lib.Ieee.{Float, nan, inf, fin, up, down, below, lt}
 use lib.Ieee.Fits.{down-pos}
 use lib.Ieee.Positive.{first-pos}
-
-pub no : {A : Type 0} → false ≡ true → A
-no e = let z : _≡_ {A = ℕ} 0 1 = cc in absurd (omega arith)
+use Rattle.places.proofs.Window.{no}
 
 -- a / e < b / d < c / f
 cross : (a b c d e f : ℕ) → 0 < e → 0 < f → a * d < b * e → b * f < c * d → a * f < c * e

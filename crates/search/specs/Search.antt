@@ -14,7 +14,6 @@ use Rattle.neighbour.specs.declared.Adjacent.{Adjacent}
 use Rattle.neighbour.specs.declared.Adjacent.the-variants.{Pixel, Outside}
 use Rattle.neighbour.specs.Neighbour.{neighbourOf}
 use Rattle.pins.specs.Pins.{pinnedAt}
-use Rattle.tiling.specs.declared.Tiling.{Tiling}
 use Rattle.search.specs.declared.Best.{Best}
 use Rattle.search.specs.declared.Site.{Site}
 use Rattle.search.specs.declared.Move.{Move}

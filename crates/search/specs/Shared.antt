@@ -1,7 +1,7 @@
 -- What every tile reads and none changes (`Shared` of dbs.rs), and how the values of a pixel are read.
 use mathlib.Core.Path.{_≡_}
 use mathlib.Core.List.{List}
-use Prim.Native.Nat.{ℕ, _+_, _-_, _*_, _<_, _≤_, min}
+use Prim.Native.Nat.{ℕ, _*_, _<_, _≤_}
 use lib.ListN.{getD, length}
 use lib.Ieee.{Float, nan}
 use Rattle.base.specs.declared.Rect.{Rect}
@@ -12,6 +12,7 @@ use Rattle.color.specs.Values.{valuesAt}
 use Rattle.tiling.specs.declared.Tiling.{Tiling}
 use Rattle.tiling.specs.Tiling.{image, Limits}
 use Rattle.search.specs.declared.Setup.{Setup}
+pub use Rattle.places.specs.Places.{Held}
 
 pub record Shared : Type 0 where
   pub tiling : Tiling  -- the image's size and the kernels' radii
@@ -56,12 +57,3 @@ pub record Ready (S : Shared) (W : Rect) (cpe-length : ℕ) (indices : List ℕ)
   pub few-inks : S .count ≤ maxInks
   pub cpp-room : length (S .cpp) ≡ cppLength
   pub named : Named indices (S .count)
-
--- Pixel (x, y) lies in the image, and it and its neighbours in the image lie in the window.
-pub record Held (T : Tiling) (W : Rect) (x y : ℕ) : Type 0 where
-  pub in-x : x < T .width
-  pub in-y : y < T .height
-  pub left : W .x0 ≤ x - 1
-  pub right : min (x + 2) (T .width) ≤ W .x1
-  pub top : W .y0 ≤ y - 1
-  pub bottom : min (y + 2) (T .height) ≤ W .y1

@@ -5,19 +5,16 @@ use base::MAX_INKS;
 use base::Rect;
 use color::YyCxCz;
 use cost::Tables;
-use neighbour::Adjacent;
 use tiling::Tiling;
 ghost use mathlib.Core.Path.{_≡_};
-ghost use mathlib.Core.Bool.{true};
 ghost use Prim.Native.Nat.{_+_, _-_, _*_, _<_, _≤_};
 ghost use lib.ListN.{length};
 ghost use Rattle.base.specs.Limits.{maxSide, maxInks};
-ghost use Rattle.base.specs.Grid.{Inside, Within, area};
-ghost use Rattle.base.specs.Loop.{upTo, table};
-ghost use Rattle.tiling.specs.Tiling.{Limits, image};
+ghost use Rattle.base.specs.Grid.{Inside, area};
+ghost use Rattle.base.specs.Loop.{upTo};
 ghost use Rattle.cost.specs.Tables.{tablesOf};
 ghost use Rattle.search.specs.Shared.{sharedOf, cpeAt, indexAt, Ready, Held};
-ghost use Rattle.search.specs.Fast.{bestOf, moveOf, Inked, partnerPlace, Findable, Spotted, swapBy, SwapFits, swapsBy, AllFit};
+ghost use Rattle.search.specs.Fast.{bestOf, moveOf, Inked, swapBy, SwapFits, swapsBy, AllFit};
 ghost use Rattle.search.specs.Search.{betterOf, noMove, tryToggle, evaluateOf};
 
 // A move of a pixel. A swap names its neighbour by code.
@@ -52,27 +49,6 @@ pub struct Setup {
     pub inks: usize,
 }
 
-// A pixel and its place in the window; where all eight neighbours lie in the image also the places,
-// in the window and in the mask, of the pixel above and left of it.
-pub struct Spot {
-    pub x: usize,
-    pub y: usize,
-    pub own: usize,
-    pub amid: bool,
-    pub from: usize,
-    pub mark: usize,
-}
-
-// Where pixel (x, y) stands among the pixels of the window.
-pub fn local(w: Rect, x: usize, y: usize) -> usize
-    requires { ⌜ Inside w x y ⌝ }
-    requires { ⌜ (w .x1 ≤ maxSide) × (w .y1 ≤ maxSide) ⌝ }
-    ensures { λ r. ⌜ r ≡ (y - w .y0) * (w .x1 - w .x0) + (x - w .x0) ⌝ }
-    ensures { λ r. ⌜ r < area w ⌝ }
-{
-    base::place(1, w, x, y)
-}
-
 // The index of a pixel of the window.
 pub fn index_at(indices: &[Index], w: Rect, x: usize, y: usize) -> usize
     requires { ⌜ Inside w x y ⌝ }
@@ -80,7 +56,7 @@ pub fn index_at(indices: &[Index], w: Rect, x: usize, y: usize) -> usize
     requires { ⌜ length (now indices) ≡ area w ⌝ }
     ensures { λ r. ⌜ r ≡ indexAt w (now (indices .entry)) x y ⌝ }
 {
-    let m = local(w, x, y);
+    let m = places::local(w, x, y);
     indices[m] as usize
 }
 
@@ -143,119 +119,6 @@ fn best_toggle(inks: &[f64], p: YyCxCz, count: usize, s: Site, v: YyCxCz, b: Cho
         j += 1;
     }
     best
-}
-
-// Whether all eight neighbours lie in the image.
-fn is_amid(t: Tiling, x: usize, y: usize) -> bool
-    requires { ⌜ (x < t .width) × (y < t .height) × (t .width ≤ maxSide) × (t .height ≤ maxSide) ⌝ }
-    ensures { λ r. ⌜ (r ≡ true → (1 ≤ x) × (x + 1 < t .width) × (1 ≤ y) × (y + 1 < t .height)) ⌝ }
-{
-    if x == 0 {
-        return false;
-    }
-    if y == 0 {
-        return false;
-    }
-    if x + 1 < t.width {
-        return y + 1 < t.height;
-    }
-    false
-}
-
-// What the places of a pixel's neighbours are found from.
-fn spot_of(t: Tiling, w: Rect, x: usize, y: usize) -> Spot
-    requires { ⌜ Limits t ⌝ }
-    requires { ⌜ Within (image t) w ⌝ }
-    requires { ⌜ Held t w x y ⌝ }
-    ensures { λ r. ⌜ (r .x ≡ x) × (r .y ≡ y) × Spotted t w r ⌝ }
-{
-    let own = local(w, x, y);
-    if is_amid(t, x, y) {
-        return Spot {
-            x,
-            y,
-            own,
-            amid: true,
-            from: local(w, x - 1, y - 1),
-            mark: local(tiling::image_rect(t), x - 1, y - 1),
-        };
-    }
-    Spot {
-        x,
-        y,
-        own,
-        amid: false,
-        from: 0,
-        mark: 0,
-    }
-}
-
-// Amid the image each neighbour stands a step on.
-fn step_place(pinned: &[u8], t: Tiling, tab: Tables, p: Spot, code: usize) -> usize
-    requires { ⌜ Findable (now pinned) t tab ⌝ }
-    requires { ⌜ Spotted t (tab .w) p ⌝ }
-    requires { ⌜ (p .amid ≡ true) × (code < 8) ⌝ }
-    ensures { λ r. ⌜ r ≡ partnerPlace (now (pinned .entry)) t (tab .w) (p .x) (p .y) code ⌝ }
-{
-    let n = p.from + tab.steps[code];
-    if pinned.len() == 0 {
-        return n;
-    }
-    let i = p.mark + tab.marks[code];
-    if pinned[i] != 0 {
-        return p.own;
-    }
-    n
-}
-
-// At an edge a neighbour may lie outside.
-fn edge_place(pinned: &[u8], t: Tiling, tab: Tables, p: Spot, code: usize) -> usize
-    requires { ⌜ Findable (now pinned) t tab ⌝ }
-    requires { ⌜ Spotted t (tab .w) p ⌝ }
-    requires { ⌜ code < 8 ⌝ }
-    ensures { λ r. ⌜ r ≡ partnerPlace (now (pinned .entry)) t (tab .w) (p .x) (p .y) code ⌝ }
-{
-    let Adjacent::Pixel { x: nx, y: ny } = neighbour::neighbour(
-        code as u8,
-        p.x,
-        p.y,
-        t.width,
-        t.height,
-    ) else {
-        return p.own;
-    };
-    if pins::is_pinned(pinned, t.width, nx, ny) {
-        return p.own;
-    }
-    local(tab.w, nx, ny)
-}
-
-// Where the neighbour stands that a swap by this code would be made with. One that is outside the image or pinned
-// reads as the pixel itself, which has its own ink, so that no swap is weighed.
-fn partner_place(pinned: &[u8], t: Tiling, tab: Tables, p: Spot, code: usize) -> usize
-    requires { ⌜ Findable (now pinned) t tab ⌝ }
-    requires { ⌜ Spotted t (tab .w) p ⌝ }
-    requires { ⌜ code < 8 ⌝ }
-    ensures { λ r. ⌜ r ≡ partnerPlace (now (pinned .entry)) t (tab .w) (p .x) (p .y) code ⌝ }
-{
-    if p.amid {
-        return step_place(pinned, t, tab, p, code);
-    }
-    edge_place(pinned, t, tab, p, code)
-}
-
-// The same by code.
-fn fill_places(places: &mut [usize], pinned: &[u8], t: Tiling, tab: Tables, p: Spot)
-    requires { ⌜ length (now places) ≡ 8 ⌝ }
-    requires { ⌜ Findable (now pinned) t tab ⌝ }
-    requires { ⌜ Spotted t (tab .w) p ⌝ }
-    ensures { λ _. ⌜ now (places .exit) ≡ table 8 (partnerPlace (now (pinned .entry)) t (tab .w) (p .x) (p .y)) ⌝ }
-{
-    let mut i = 0usize;
-    while i < 8 {
-        places[i] = partner_place(pinned, t, tab, p, i);
-        i += 1;
-    }
 }
 
 // The swap with the pixel at place n of the window, if it has another ink. g: the kernels at their centres less beside them.
@@ -345,7 +208,7 @@ pub fn evaluate(
     };
     let toggled = best_toggle(inks, tab.centre, g.inks, s, v, start);
     let mut places = [0usize; 8];
-    fill_places(&mut places, pinned, t, tab, spot_of(t, w, x, y));
+    places::fill_places(&mut places, pinned, t, tab, places::spot_of(t, w, x, y));
     let best = best_swap(cpe, indices, inks, tab, &places, s, v, toggled);
     Best {
         cost: best.cost,

@@ -1,7 +1,6 @@
 -- A window that reaches d pixels round a pixel, cut at the image: it holds the pixel, and reaches d - 1 pixels round each neighbour. Assumes nothing.
 use Prim.Native.Nat.{ℕ, suc, _+_, _-_, _≤_, _<_, min}
 use native.Mathlib.Omega.{arith}
-use mathlib.Core.Path.{_≡_}
 use Rattle.base.specs.declared.Rect.{Rect}
 use Rattle.base.specs.Grid.{Inside, Within}
 use Rattle.tiling.specs.declared.Tiling.{Tiling}

@@ -27,7 +27,7 @@ use Rattle.search.specs.Search.{noMove, evaluateOf, FairMove}
 use Rattle.search.proofs.Laws.{held-inside, neighbour-inside, partner-is, evaluate-fair, index-named}
 use Rattle.moves.specs.declared.Progress.{Progress}
 use Rattle.moves.specs.Moves.{exchanged, movedIndices, swapKernels, movedCpe, counted}
-use Rattle.tile.specs.Tile.{State, state, applied, visitOf, refineRow, refineTile, unpinned, Covers}
+use Rattle.tile.specs.Tile.{State, applied, visitOf, refineRow, refineTile, unpinned, Covers}
 
 -- ---- one index written
 

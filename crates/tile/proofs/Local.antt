@@ -7,7 +7,6 @@ use mathlib.Core.Bool.{Bool, true, false, cond}
 use mathlib.Core.List.{List}
 use lib.Ieee.{Float, nan}
 use Rattle.base.specs.declared.Rect.{Rect}
-use Rattle.base.specs.Loop.{upTo}
 use Rattle.base.specs.Grid.{Inside, Within, place, cell, put}
 use Rattle.base.specs.F64.{_+f_, _*f_}
 use Rattle.base.proofs.LoopLaws.{fromTo-rel}

@@ -1,5 +1,6 @@
 -- What the code of the walk holds between two turns: its slices are the definition's state, and still what the next turn asks for. Assumes nothing.
-use Prim.Native.Nat.{ℕ, _+_, _-_, _*_, _≤_}
+use Prim.Native.Nat.{ℕ, _+_, _-_, _*_, _<_, _≤_}
+use native.Mathlib.Nat.{add-mul}
 use native.Mathlib.Omega.{arith}
 use mathlib.Core.Path.{_≡_, refl, sym, ap, _∙_, subst}
 use mathlib.Core.Bool.{Bool, true, false, cond}
@@ -8,7 +9,8 @@ use lib.ListN.{length}
 use lib.Ieee.{Float}
 use Rattle.base.specs.declared.Rect.{Rect}
 use Rattle.base.proofs.Bounds.{index-lt}
-use Rattle.base.proofs.LoopLaws.{fromTo-grows}
+use Rattle.base.specs.Loop.{fromTo}
+use Rattle.base.proofs.LoopLaws.{fromTo-none, fromTo-more, fromTo-grows}
 use Rattle.tiling.specs.declared.Tiling.{Tiling}
 use Rattle.neighbour.specs.declared.Adjacent.{Adjacent}
 use Rattle.neighbour.specs.declared.Adjacent.the-variants.{Pixel, Outside}
@@ -78,6 +80,9 @@ visited S W x y cpe indices p b free best field index count = rw (free, field, i
 
 -- ---- between two turns
 
+turn-count : (i from c : ℕ) → from ≤ i → (i + 1 - from) * c ≡ (i - from) * c + c
+turn-count i from c h = let e : i + 1 - from ≡ i - from + 1 = omega (arith, h) in rw (e, add-mul (i - from) 1 c) (omega arith)
+
 -- the slices now are the state s, and at most k moves were accepted since the start
 pub record Walked (S : Shared) (W : Rect) (k : ℕ) (cpe₀ : List Float) (indices₀ : List ℕ) (p₀ : Progress) (cpe : List Float) (indices : List ℕ) (p : Progress) (s : State) : Type 0 where
   pub same : state cpe indices p ≡ s
@@ -88,20 +93,21 @@ pub walked-none : {S : Shared} {W : Rect} {cpe : List Float} {indices : List ℕ
     Walked S W 0 cpe indices p cpe indices p s
 walked-none s r e = record { same = e; sound = record { cpe = refl; room = r .indices-room; named = r .named; pins = λ u v i pin. refl }; count = omega arith }
 
-pub ready-again : {S : Shared} {W : Rect} {k : ℕ} {cpe₀ cpe : List Float} {indices₀ indices : List ℕ} {p₀ p : Progress} {s : State} →
-    Ready S W (length cpe₀) indices₀ → Walked S W k cpe₀ indices₀ p₀ cpe indices p s → Ready S W (length cpe) indices
-ready-again r w = record {
+-- slices that are sound are ready for the next turn
+pub ready-again : {S : Shared} {W : Rect} {n : ℕ} {indices₀ indices : List ℕ} (cpe : List Float) {p : Progress} →
+    Ready S W n indices₀ → Sound S W indices₀ n (state cpe indices p) → Ready S W (length cpe) indices
+ready-again cpe r w = record {
   limits = r .limits;
   lum-least = r .lum-least;
   chroma-least = r .chroma-least;
   within = r .within;
-  cpe = w .sound .cpe ∙ r .cpe;
-  indices-room = w .sound .room;
+  cpe = w .cpe ∙ r .cpe;
+  indices-room = w .room;
   mask = r .mask;
   inks-room = r .inks-room;
   few-inks = r .few-inks;
   cpp-room = r .cpp-room;
-  named = w .sound .named;
+  named = w .named;
 }
 
 -- a turn g, which keeps the state sound and accepts at most c moves
@@ -112,6 +118,31 @@ pub walked-more : {S : Shared} {W : Rect} {k : ℕ} {cpe₀ cpe : List Float} {i
 walked-more {S} {W} {k} {cpe₀} {cpe} {indices₀} {indices} {p₀} {p} c g cpe₁ indices₁ p₁ w e sound few =
     let n : p₁ .accepted ≡ g (state cpe indices p) .progress .accepted = ap (λ (t : State). t .progress .accepted) e in
     record { same = e ∙ ap g (w .same); sound = subst (Sound S W indices₀ (length cpe₀)) (sym e) sound; count = omega (arith, n, few, w .count) }
+
+-- a loop whose turns from `from` to i - 1 are made, each of which accepts at most c moves
+pub record Turns (S : Shared) (W : Rect) (c : ℕ) (f : ℕ → State → State) (cpe₀ : List Float) (indices₀ : List ℕ) (p₀ : Progress) (from to i : ℕ) (cpe : List Float) (indices : List ℕ) (p : Progress) : Type 0 where
+  pub low : from ≤ i
+  pub high : i ≤ to
+  pub walked : Walked S W ((i - from) * c) cpe₀ indices₀ p₀ cpe indices p (fromTo from i f (state cpe₀ indices₀ p₀))
+
+module _ {S : Shared} {W : Rect} (c : ℕ) (f : ℕ → State → State) {cpe₀ : List Float} {indices₀ : List ℕ} {p₀ : Progress} (from to : ℕ) where
+  pub turns-none : Ready S W (length cpe₀) indices₀ → from ≤ to → Turns S W c f cpe₀ indices₀ p₀ from to from cpe₀ indices₀ p₀
+  turns-none r h =
+      let same : from - from ≡ 0 = omega arith in
+      let none : (from - from) * c ≡ 0 = rw same (omega arith) in
+      record { low = omega arith; high = h; walked = rw none (walked-none _ r (sym (fromTo-none from from _ _ (omega arith)))) }
+
+  pub turns-more : {i : ℕ} {cpe : List Float} {indices : List ℕ} {p : Progress} (cpe₁ : List Float) (indices₁ : List ℕ) (p₁ : Progress) →
+      Turns S W c f cpe₀ indices₀ p₀ from to i cpe indices p → i < to → state cpe₁ indices₁ p₁ ≡ f i (state cpe indices p) →
+      Sound S W indices₀ (length cpe₀) (f i (state cpe indices p)) → f i (state cpe indices p) .progress .accepted ≤ p .accepted + c →
+      Turns S W c f cpe₀ indices₀ p₀ from to (i + 1) cpe₁ indices₁ p₁
+  turns-more {i} cpe₁ indices₁ p₁ t h e sound few =
+      let k : (i + 1 - from) * c ≡ (i - from) * c + c = turn-count i from c (t .low) in
+      record { low = omega (arith, t .low); high = omega (arith, h); walked = rw (fromTo-more _ _ _ _ (t .low), k) (walked-more c (f i) cpe₁ indices₁ p₁ (t .walked) e sound few) }
+
+  pub turns-all : {i : ℕ} {cpe : List Float} {indices : List ℕ} {p : Progress} → Turns S W c f cpe₀ indices₀ p₀ from to i cpe indices p → to ≤ i →
+      state cpe indices p ≡ fromTo from to f (state cpe₀ indices₀ p₀)
+  turns-all {i} t h = let e : i ≡ to = omega (arith, t .high, h) in rw e at (t .walked .same)
 
 -- one move at most is accepted at a pixel, and so one for each pixel of a row
 one : (b : Bool) → cond b 0 1 ≤ 1

@@ -4,17 +4,16 @@ use Prim.Native.Nat.{ℕ, zero, suc, _+_, _*_, _≤_, _<_}
 use native.Mathlib.Omega.{arith}
 use mathlib.Core.Path.{_≡_, refl, sym, ap, _∙_, subst}
 use mathlib.Core.Logic.{_⊎_, inl, inr, ⊎-elim}
-use mathlib.Core.Bool.{Bool, true, false, cond, _||_}
+use mathlib.Core.Bool.{Bool, true, false, cond}
 use mathlib.Core.List.{List, [], _∷_, _++_}
 use lib.ListN.{length, length-append}
-use lib.Dec.{eqb, leb, T, eqb→eq, leb→le}
+use lib.Dec.{eqb, leb}
 use lib.Ieee.{Float}
 use borrow.Author.Tests.{ne-eqb, eqb-true, eqb-false, leb-true, leb-false}
 use Rattle.base.proofs.LoopLaws.{upTo-ind}
-use Rattle.base.specs.Loop.{upTo}
 use Rattle.tiling.specs.Tiling.{image}
 use Rattle.search.specs.Shared.{Shared, Ready}
-use Rattle.walk.specs.Walk.{Refined, refined, walkTiles, Walk, passEnd, phaseEnd, walkPhase, walkStart, walkAt, walkEnd}
+use Rattle.walk.specs.Walk.{Refined, walkTiles, Walk, passEnd, walkPhase, walkStart, walkAt, walkEnd}
 use Rattle.walk.specs.Promises.{LastZero, Settled}
 use Rattle.walk.proofs.Laws.{SoundImage, walkTiles-sound}
 use Rattle.walk.proofs.Passes.{phase-ended}

@@ -1,5 +1,5 @@
 -- What the plain walk keeps, tile by tile: pinned indices stay, every index names an ink, and a tile accepts at most 67 · 67 moves. Assumes nothing.
-use Prim.Native.Nat.{ℕ, _+_, _-_, _*_, _≤_, _<_, min}
+use Prim.Native.Nat.{ℕ, _+_, _*_, _≤_, _<_, min}
 use native.Mathlib.Omega.{arith}
 use mathlib.Core.Path.{_≡_, refl, sym, ap, _∙_, subst}
 use mathlib.Core.Bool.{Bool, true, false, cond}
@@ -92,22 +92,6 @@ pub record Between (S : Shared) (k : ℕ) (cpe₀ : List Float) (indices₀ : Li
 pub between-none : {S : Shared} {cpe : List Float} {indices : List ℕ} {run : Run} (r : Refined) → Ready S (image (S .tiling)) (length cpe) indices → refined cpe indices run ≡ r →
     Between S 0 cpe indices run cpe indices run r
 between-none r h e = record { same = e; sound = record { cpe = refl; room = h .indices-room; named = h .named; pins = λ u v i pin. refl }; few = omega arith }
-
-pub ready-image : {S : Shared} {n : ℕ} {indices₀ indices : List ℕ} (cpe : List Float) →
-    Ready S (image (S .tiling)) n indices₀ → Sound S (image (S .tiling)) indices₀ n (state cpe indices noProgress) → Ready S (image (S .tiling)) (length cpe) indices
-ready-image cpe r w = record {
-  limits = r .limits;
-  lum-least = r .lum-least;
-  chroma-least = r .chroma-least;
-  within = r .within;
-  cpe = w .cpe ∙ r .cpe;
-  indices-room = w .room;
-  mask = r .mask;
-  inks-room = r .inks-room;
-  few-inks = r .few-inks;
-  cpp-room = r .cpp-room;
-  named = w .named;
-}
 
 pub between-more : {S : Shared} {k : ℕ} {cpe₀ cpe : List Float} {indices₀ indices : List ℕ} {run₀ run : Run} {r : Refined} (c : ℕ) (g : Refined → Refined)
     (cpe₁ : List Float) (indices₁ : List ℕ) (run₁ : Run) → Between S k cpe₀ indices₀ run₀ cpe indices run r →

@@ -1,7 +1,7 @@
 -- Passes: four phases of a walk that rests between two passes are one pass, and a walk that has ended stays. Assumes nothing.
 use Prim.Native.Nat.{ℕ, zero, suc, _+_, _-_, _*_, _<_}
 use native.Mathlib.Omega.{arith}
-use mathlib.Core.Path.{_≡_, refl, sym, ap, _∙_}
+use mathlib.Core.Path.{_≡_, refl, sym, ap, _∙_, subst}
 use mathlib.Core.Bool.{Bool, true, false}
 use mathlib.Core.List.{List, [], _∷_, _++_}
 use lib.ListN.{length, set, length-append}
@@ -113,15 +113,18 @@ module _ {S : Shared} {cpe₀ : List Float} {indices₀ counts₀ : List ℕ} {e
       ∙ overwrite-more 0 0 (w .done) counts₀ (run .accepted) (omega (arith, n))
 
   -- a pass with moves: the walk rests again
-  pub rests-more : SoundImage S indices₀ (length cpe₀) (refined cpe₁ indices₁ run) → (run .accepted ≡ 0 → ⊥) →
+  pub rests-more : (run .accepted ≡ 0 → ⊥) →
       Rests S cpe₀ indices₀ counts₀ error (pass + 1) cpe₁ indices₁ (set counts pass (run .accepted)) (run .error)
-  rests-more s moved = record {
-    done = w .done ++ (run .accepted ∷ []);
-    walk = later ∙ rw (ne-eqb _ _ moved, more-counts);
-    many = more-counts;
-    stored = more-stored;
-    sound = record { cpe = s .cpe; room = s .room; named = s .named; pins = s .pins };
-  }
+  rests-more moved =
+      let s : SoundImage S indices₀ (length cpe₀) (refined cpe₁ indices₁ run) =
+      subst (SoundImage S indices₀ (length cpe₀)) (sym q) (pass-sound S indices₀ (length cpe₀) (refined cpe indices (run0 e)) (w .sound)) in
+      record {
+        done = w .done ++ (run .accepted ∷ []);
+        walk = later ∙ rw (ne-eqb _ _ moved, more-counts);
+        many = more-counts;
+        stored = more-stored;
+        sound = record { cpe = s .cpe; room = s .room; named = s .named; pins = s .pins };
+      }
 
   -- a pass without: the walk has ended
   pub rests-ended : run .accepted ≡ 0 →
@@ -139,7 +142,7 @@ module _ {S : Shared} {cpe₀ : List Float} {indices₀ counts₀ : List ℕ} {e
         cpe-is = sym (ap (λ (v : Walk). v .now .cpe) end);
         indices-is = sym (ap (λ (v : Walk). v .now .indices) end);
         counts-is = more-stored ∙ sym (ap (λ (v : Walk). overwrite 0 (v .counts) counts₀) end);
-        outcome-is = ap (λ (n : ℕ). record { passes = n; error = run .error }) (sym more-counts) ∙ sym (ap outcomeOf end);
+        outcome-is = _∙_ {b = outcomeOf (passEnd P (w .done) (refined cpe₁ indices₁ run))} (ap (λ (n : ℕ). record { passes = n; error = run .error }) (sym more-counts)) (sym (ap outcomeOf end));
       }
 
 -- all passes are done

@@ -1,11 +1,11 @@
 -- `spread` meets its contract: after each turn the lines of the rows above y have the row of values. Assumes nothing.
 use native.Mathlib.Omega.{arith}
-use Prim.Native.Nat.{suc, _+_, _*_, _-_, _≤_, _<_}
-use mathlib.Core.Path.{_≡_, refl, sym, subst, _∙_}
+use Prim.Native.Nat.{_+_, _*_, _-_, _≤_}
+use mathlib.Core.Path.{_≡_, refl, subst}
 use borrow.Author.Needs.{needs}
 use borrow.Rule.Slice.PartMut.{mid-len}
 use lib.ListN.{length}
-use Rattle.correlate.specs.Correlate.{at, tapSum, rowTaps, lineOf, Spread, RowFits}
+use Rattle.correlate.specs.Correlate.{rowTaps, Spread}
 use Rattle.correlate.proofs.SpreadLaws.{spread-idle, spread-more, line-made}
 use Rattle.correlate.proofs.spread.Statement.{statement}
 use Rattle.correlate.proofs.spread.Tie as tie

@@ -4,7 +4,7 @@ use Prim.Native.Nat.{_+_, _*_}
 use native.Mathlib.Omega.{arith}
 use borrow.Author.Needs.{needs}
 use Rattle.neighbour.specs.Neighbour.{neighbourOf}
-use Rattle.neighbour.specs.declared.Adjacent.the-variants.{Pixel}
+use Rattle.neighbour.specs.declared.Adjacent.the-variants.{Pixel, Outside}
 use Rattle.neighbour.proofs.Laws.{Beyond, near-by}
 use Rattle.cost.specs.Cost.{besideOf}
 use Rattle.cost.proofs.AllEight.{Found, centre-found}
@@ -49,8 +49,9 @@ returns c = rw (found (c .before .before), c .kernel-at .ensures)
 returns-2 : tie.Need-returns-2
 returns-2 c =
     let s = c .before .before .before .before in
-    absurd (subst Found (sym (c .before .before .neighbour .ensures) ∙ c .enum-told .given .1)
-    (centre-found (s .args .code) (s .args .k .radius) (s .pre .1 .1) (s .pre .1 .0)))
+    let none : Found Outside =
+    rw (← c .before .before .neighbour .ensures, c .enum-told .given .1) at (centre-found (s .args .code) (s .args .k .radius) (s .pre .1 .1) (s .pre .1 .0)) in
+    absurd none
 
 pub kernel-beside-spec : {M : Type 1} → statement M
 kernel-beside-spec =

@@ -1,9 +1,11 @@
 -- `open_run` meets its contract: once the run's length has passed it is the open, and an accepted one writes its record. Assumes nothing.
+use Rattle.base.proofs.AnswerLaws.{is-accepted}
 use Rattle.input.specs.Input.{input}
 use Rattle.job.specs.Open.{Opening, opening}
 use Rattle.job.specs.Words.{runTest}
-use Rattle.words.proofs.RunLaws.{written-whole}
-use Rattle.open.proofs.Laws.{run-refused, run-written}
+use Rattle.job.specs.Boundary.{openRun, openedOver}
+use Rattle.words.proofs.RunLaws.{written-whole, written-ok}
+use Rattle.open.proofs.Laws.{run-refused}
 use borrow.Author.Needs.{needs}
 use Rattle.open.proofs.open_run.Statement.{statement}
 use Rattle.open.proofs.open_run.Tie as tie
@@ -75,13 +77,13 @@ same-length-6 : tie.Need-same-length-6
 same-length-6 c = search needs
 
 returns-2 : tie.Need-returns-2
-unfolding runTest
+unfolding runTest openRun openedOver
 returns-2 c =
     let m = made c in
     let k = passed m in
     let r = k .before .before in
     let w = c .before .before .enter .ensures in
-    run-written (start r .args .«record» .now) (O (start r)) (r .check-run .ensures) (k .if1 .left) (m .«open» .ensures) (w .0) (w .1)
+    rw (w .0, w .1, written-ok (start r .args .«record» .now) (r .check-run .ensures) (k .if1 .left), is-accepted, ← m .«open» .ensures)
 
 pub open-run-spec : {M : Type 1} → statement M
 open-run-spec =

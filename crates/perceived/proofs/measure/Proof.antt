@@ -1,12 +1,8 @@
 -- `perceived::measure` meets its contract: a refusal is the first test that fails, and else the error is the accepted input's. Assumes nothing.
 use mathlib.Core.List.{[]}
-use mathlib.Core.Path.{sym, ap, _∙_}
 use borrow.Author.Needs.{needs}
-use Rattle.eye.specs.declared.Eye.{Eye}
 use Rattle.input.specs.Input.{Input, input}
-use Rattle.input.proofs.InputLaws.{checked-accepted}
-use Rattle.perceived.specs.Perceived.{measuredAs}
-use Rattle.perceived.proofs.Laws.{refused-is, accepted-is}
+use Rattle.perceived.proofs.Laws.{refused-is, passed, accepted-is}
 use Rattle.perceived.proofs.measure.Statement.{statement}
 use Rattle.perceived.proofs.measure.Tie as tie
 
@@ -30,13 +26,14 @@ perceived-error-requires : tie.Need-perceived-error-requires
 perceived-error-requires c κs =
     let earlier-2 = c .before .before .before .before .before in
     let earlier = earlier-2 .before .before .before in
-    checked-accepted (I (earlier)) (ap (λ (e : Eye). e .status .number) (sym (c .before .before .before .check-input .ensures)) ∙ c .if1 .left)
+    passed (I (earlier)) (c .before .before .before .check-input .result) (c .before .before .before .check-input .ensures) (c .if1 .left)
 
 returns-2 : tie.Need-returns-2
 returns-2 c =
     let earlier-2 = c .before .before .before .before .before in
     let earlier = earlier-2 .before .before .before .before in
-    ap measuredAs (c .perceived-error .ensures) ∙ accepted-is (I (earlier)) (c .before .before .before .before .check-input .result) (c .before .before .before .before .check-input .ensures) (c .before .if1 .left)
+    rw (c .perceived-error .ensures)
+    (accepted-is (I (earlier)) (c .before .before .before .before .check-input .result) (c .before .before .before .before .check-input .ensures) (c .before .if1 .left))
 
 pub measure-spec : {M : Type 1} → statement M
 measure-spec =

@@ -1,6 +1,5 @@
 -- `perceived::perceived_with` meets its contract: the ink values and both blurs are the input's, and what is measured fits. Assumes nothing.
 use mathlib.Core.List.{[]}
-use mathlib.Core.Path.{_∙_}
 use borrow.Author.Needs.{needs}
 use Rattle.input.specs.Input.{Input, input}
 use Rattle.input.proofs.Validity.{palette-whole}
@@ -63,7 +62,7 @@ returns c =
     let at-palette-to-inks = at-eye-blur .before .before .before .before in
     let earlier-3 = at-palette-to-inks .before .before .before .before .before in
     let earlier = earlier-3 .before .before .before in
-    c .perceived .ensures ∙ error-is (I (earlier)) _ _ _ _ _ (at-palette-to-inks .palette-to-inks .ensures) (at-eye-blur .eye-blur .ensures) (at-eye-blur2 .eye-blur2 .ensures)
+    rw (error-is (I (earlier)) _ _ _ _ _ (at-palette-to-inks .palette-to-inks .ensures) (at-eye-blur .eye-blur .ensures) (at-eye-blur2 .eye-blur2 .ensures)) at (c .perceived .ensures)
 
 pub perceived-with-spec : {M : Type 1} → statement M
 perceived-with-spec =

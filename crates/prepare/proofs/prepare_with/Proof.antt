@@ -1,10 +1,10 @@
 -- `prepare::prepare_with` meets its contract: each step makes what the next one reads, as the definitions say. Assumes nothing.
-use mathlib.Core.Path.{_≡_, sym, ap, _∙_}
+use mathlib.Core.Path.{_≡_, sym, _∙_}
 use Prim.Native.Nat.{_*_}
 use lib.ListN.{length}
 use Rattle.input.specs.Input.{Input, input, pixelCount}
 use Rattle.prepare.specs.Prepare.{inksOf, cppOf}
-use Rattle.prepare.proofs.Laws.{valid, eye-ok, palette-whole, field-is, error-is, scene-fits-as, field-fits, length-field}
+use Rattle.prepare.proofs.Laws.{valid, eye-ok, palette-whole, field-is, field-length, error-is, scene-fits-as, field-fits}
 use borrow.Author.Needs.{needs}
 use Rattle.prepare.proofs.prepare_with.Statement.{statement}
 use Rattle.prepare.proofs.prepare_with.Tie as tie
@@ -48,7 +48,10 @@ initial-error-requires c κs =
     let earlier-2 = at-palette-to-inks .before .before .before .before .before in
     let start = earlier-2 .before .before .before .before in
     let a = start .pre .1 in
-    (start .pre .0, (scene-fits-as (I (start)) (start .args .t) _ (start .args .cpp .now) _ (a .tiling) (at-palette-to-inks .palette-to-inks .ensures) (at-eye-kernels .eye-kernels .ensures) (a .passes), ap length (c .before .before .before .before .initial-field .ensures) ∙ length-field _ _ _))
+    let i = at-palette-to-inks .palette-to-inks .ensures in
+    let k = at-eye-kernels .eye-kernels .ensures in
+    let f = c .before .before .before .before .initial-field in
+    (start .pre .0, (scene-fits-as (I (start)) (start .args .t) _ (start .args .cpp .now) _ (a .tiling) i k (a .passes), field-length (I (start)) (start .args .t) _ (start .args .cpp .now) _ (a .tiling) i k _ (f .ensures)))
 
 same-length : tie.Need-same-length
 same-length c = search needs
@@ -71,8 +74,8 @@ returns c =
     let a = start .pre .1 in
     let i = at-palette-to-inks .palette-to-inks .ensures in
     let k = at-eye-kernels .eye-kernels .ensures in
-    let f = c .before .before .before .before .before .initial-field .ensures ∙ field-is (I (start)) (start .args .t) _ (start .args .cpp .now) _ (a .tiling) i k in
-    record { inks-is = i; cpp-is = k; cpe-is = f; error-is = c .initial-error .ensures ∙ error-is (I (start)) (start .args .t) _ (start .args .cpp .now) _ (a .tiling) i k _ f }
+    let f = rw (field-is (I (start)) (start .args .t) _ (start .args .cpp .now) _ (a .tiling) i k) at (c .before .before .before .before .before .initial-field .ensures) in
+    record { inks-is = i; cpp-is = k; cpe-is = f; error-is = rw (error-is (I (start)) (start .args .t) _ (start .args .cpp .now) _ (a .tiling) i k _ f) at (c .initial-error .ensures) }
 
 pub prepare-with-spec : {M : Type 1} → statement M
 prepare-with-spec =

@@ -1,5 +1,5 @@
 -- `search::evaluate` meets its contract: the pixel lies in the window, its index names an ink, and the two loops are those of the definition. Assumes nothing.
-use mathlib.Core.Path.{_≡_, refl, ap, _∙_}
+use mathlib.Core.Path.{_≡_, refl}
 use Prim.Native.Nat.{_+_, _<_}
 use native.Mathlib.Omega.{arith}
 use borrow.Author.Needs.{needs}
@@ -7,21 +7,14 @@ use lib.Ieee.{neg, ofBits, round}
 use Rattle.base.specs.Limits.{maxInks}
 use Rattle.base.specs.F64.{f64}
 use Rattle.base.specs.Grid.{Inside}
-use Rattle.base.specs.Loop.{upTo}
-use Rattle.search.specs.declared.Best.{Best}
-use Rattle.search.specs.declared.Choice.{Choice}
-use Rattle.search.specs.declared.Site.{Site}
-use Rattle.search.specs.Shared.{Shared, sharedOf}
-use Rattle.search.specs.Search.{noMove, tryToggle}
+use Rattle.search.specs.Shared.{sharedOf}
+use Rattle.search.specs.Search.{noMove}
 use Rattle.search.specs.Fast.{bestOf, moveOf}
-use Rattle.search.proofs.Window.{ready-limits, ready-index, held-inside}
-use Rattle.search.proofs.FastLaws.{findable, centres-are, all-fit, swaps-by-places, evaluated}
+use Rattle.places.proofs.Window.{held-inside}
+use Rattle.search.proofs.Window.{ready-limits, ready-index}
+use Rattle.search.proofs.FastLaws.{findable, all-fit, evaluated}
 use Rattle.search.proofs.evaluate.Statement.{statement}
 use Rattle.search.proofs.evaluate.Tie as tie
-
-best-is : (b : Choice) → _≡_ {A = Best} (record { cost = b .cost; mv = moveOf (b .pick) }) (bestOf b)
-unfolding bestOf
-best-is b = refl
 
 start-is : bestOf (record { cost = neg (f64 0x3e112e0be826d695); pick = maxInks + 8 }) ≡ noMove
 unfolding bestOf moveOf ofBits round
@@ -93,19 +86,36 @@ move-of-requires : tie.Need-move-of-requires
 move-of-requires c κs = search needs
 
 returns : tie.Need-returns
+unfolding bestOf
 returns c =
     let at = c .before .before in
     let t = toggled at in
     let i = site t in
     let s = start i in
     let a = s .args in
-    let S : Shared = sharedOf (a .g) (a .pinned .now) (a .inks .now) (a .cpp .now) in
-    let k : Site = record { k = i .index-at .result; c = t .before .before .cpe-at .result } in
-    let all = upTo (tryToggle (a .inks .now) (a .tab .centre) k) (a .g .inks) in
     let p = at .before .before .before .spot-of .ensures in
-    let by-place = swaps-by-places S (a .tab .w) (a .cpe .now) (a .indices .now) (a .x) (a .y) k (i .index-at .ensures) (a .tab) (s .pre .1 .1) _ (rw (p .0, p .1) at (at .before .before .fill-places .ensures)) (bestOf (t .best-toggle .result)) in
-    let whole = evaluated S (a .tab .w) (a .cpe .now) (a .indices .now) (a .x) (a .y) (i .index-at .result) (t .before .before .cpe-at .result) (a .tab .centre) (bestOf (t .best-toggle .result)) (t .best-toggle .ensures ∙ ap all start-is) (centres-are (a .cpp .now) (a .g .tiling) (a .tab) (s .pre .1 .1)) (i .index-at .ensures) (t .before .before .cpe-at .ensures) in
-    rw (c .move-of .ensures) (best-is (c .before .best-swap .result) ∙ c .before .best-swap .ensures ∙ by-place ∙ whole)
+    rw (c .move-of .ensures)
+    (evaluated
+    (sharedOf (a .g) (a .pinned .now) (a .inks .now) (a .cpp .now))
+    (a .tab .w)
+    (a .cpe .now)
+    (a .indices .now)
+    (a .x)
+    (a .y)
+    (i .index-at .result)
+    (t .before .before .cpe-at .result)
+    (a .tab)
+    _
+    (bestOf (record { cost = neg (f64 0x3e112e0be826d695); pick = maxInks + 8 }))
+    (bestOf (t .best-toggle .result))
+    (bestOf (c .before .best-swap .result))
+    start-is
+    (s .pre .1 .1)
+    (rw (p .0, p .1) at (at .before .before .fill-places .ensures))
+    (i .index-at .ensures)
+    (t .before .before .cpe-at .ensures)
+    (t .best-toggle .ensures)
+    (c .before .best-swap .ensures))
 
 pub evaluate-spec : {M : Type 1} → statement M
 evaluate-spec =

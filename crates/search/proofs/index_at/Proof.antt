@@ -2,7 +2,7 @@
 use native.Mathlib.Omega.{arith}
 use borrow.Author.Needs.{needs}
 use Rattle.base.specs.Grid.{cell}
-use Rattle.search.proofs.Window.{place-index}
+use Rattle.places.proofs.Window.{place-index}
 use Rattle.search.proofs.index_at.Statement.{statement}
 use Rattle.search.proofs.index_at.Tie as tie
 

@@ -1,7 +1,6 @@
 -- `search::move_of` meets its contract: each arm is the one that the tests pick. Assumes nothing.
 use borrow.Author.Needs.{needs}
 use borrow.Author.Tests.{lt-ltb, le-ltb}
-use native.Mathlib.Omega.{arith}
 use Prim.Native.Nat.{_+_}
 use Rattle.base.specs.Limits.{maxInks}
 use Rattle.search.specs.Fast.{moveOf}

@@ -1,7 +1,6 @@
 -- `search::swap_at` meets its contract: each arm is the one that the test picks. Assumes nothing.
-use native.Mathlib.Omega.{arith}
 use borrow.Author.Tests.{eq-eqb, ne-eqb}
-use borrow.Author.Needs.{needs}
+use native.Mathlib.Omega.{arith}
 use Rattle.search.specs.Fast.{swapBy}
 use Rattle.search.proofs.FastLaws.{move-swap}
 use Rattle.search.proofs.swap_at.Statement.{statement}
@@ -14,38 +13,46 @@ start c =
     earlier
 
 shared-slice-read-kn : tie.Need-shared-slice-read-kn
-shared-slice-read-kn c = search needs
+shared-slice-read-kn c = c .before .before .before .before .pre .1 .0 .pixel
 
 cast-kn : tie.Need-cast-kn
-cast-kn c = search needs
+cast-kn c = omega (arith, c .before .before .shared-slice-known2 .given (c .before .before .before .before .args .n))
 
 returns : tie.Need-returns
 unfolding swapBy
 returns c = simp (eq-eqb _ _ (c .if1 .taken))
 
 mul-values-at : tie.Need-mul-values-at
-mul-values-at c = search needs
+mul-values-at c =
+    let known = c .before .before .before .before .shared-slice-known2 in
+    omega (arith, known .given (start c .args .n))
 
 values-at-requires : tie.Need-values-at-requires
-values-at-requires c κs = search needs
+values-at-requires c κs = start c .pre .1 .0 .named
 
 less-requires : tie.Need-less-requires
-less-requires c κs = search needs
+less-requires c κs = tt
 
 mul-values-at-2 : tie.Need-mul-values-at-2
-mul-values-at-2 c = search needs
+mul-values-at-2 c =
+    let fits = start (c .before .before) .pre .1 .0 in
+    omega (arith, fits .pixel, fits .limit)
 
 values-at-requires-2 : tie.Need-values-at-requires-2
-values-at-requires-2 c κs = search needs
+values-at-requires-2 c κs =
+    let fits = start (c .before .before) .pre .1 .0 in
+    omega (arith, fits .pixel, fits .room)
 
 swap-cost-requires : tie.Need-swap-cost-requires
-swap-cost-requires c κs = search needs
+swap-cost-requires c κs = tt
 
 add-better : tie.Need-add-better
-add-better c = search needs
+add-better c =
+    let at = c .before .before .before .before in
+    omega (arith, start at .pre .1 .1)
 
 better-requires : tie.Need-better-requires
-better-requires c κs = search needs
+better-requires c κs = tt
 
 returns-2 : tie.Need-returns-2
 unfolding swapBy

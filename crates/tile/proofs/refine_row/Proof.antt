@@ -1,28 +1,21 @@
--- `tile::refine_row` meets its contract: between two pixels the slices are the definition's state (`Walked`). Assumes nothing.
-use mathlib.Core.Path.{_≡_, sym, _∙_}
-use Prim.Native.Nat.{ℕ, _+_, _-_, _≤_}
+-- `tile::refine_row` meets its contract: between two pixels the slices are the definition's state (`Turns`). Assumes nothing.
+use mathlib.Core.Path.{sym, _∙_}
+use Prim.Native.Nat.{_-_}
 use native.Mathlib.Omega.{arith}
 use lib.ListN.{length}
 use borrow.Author.Needs.{needs}
-use Rattle.base.specs.declared.Rect.{Rect}
 use Rattle.base.specs.Grid.{Inside}
-use Rattle.base.specs.Loop.{fromTo}
-use Rattle.base.proofs.LoopLaws.{fromTo-none, fromTo-more}
 use Rattle.search.specs.Shared.{Shared, sharedOf}
 use Rattle.tile.specs.Tile.{State, state, visitOf, refineRow}
 use Rattle.tile.proofs.Keeps.{covers-held, visit-sound}
-use Rattle.tile.proofs.Walked.{Walked, walked-none, walked-more, ready-again, visit-most}
+use Rattle.tile.proofs.Walked.{Turns, turns-none, turns-more, turns-all, ready-again, visit-most}
 use Rattle.tile.proofs.refine_row.Statement.{statement}
 use Rattle.tile.proofs.refine_row.Tie as tie
-
--- the row up to column x
-abbrev done : Shared → Rect → ℕ → ℕ → ℕ → State → State
-done S W y from x s = fromTo from x (λ x. visitOf S W x y) s
 
 abbrev Inv-loop : tie.InvT-loop
 Inv-loop cpe₀ indices₀ pinned inks cpp g tab y end x₀ n₀ cpe indices x n =
     let S = sharedOf g pinned inks cpp in
-    (x₀ ≤ x) × (x ≤ end) × Walked S (tab .w) (x - x₀) cpe₀ indices₀ n₀ cpe indices n (done S (tab .w) y x₀ x (state cpe₀ indices₀ n₀))
+    Turns S (tab .w) 1 (λ x. visitOf S (tab .w) x y) cpe₀ indices₀ n₀ x₀ end x cpe indices n
 
 abbrev μ-loop : tie.MeasureT-loop
 μ-loop cpe₀ indices₀ pinned inks cpp g tab y end x₀ n₀ cpe indices x n = end - x
@@ -41,23 +34,22 @@ turn c =
 
 -- the pixel of this turn lies in the tile
 inside : (c : tie.In-loop Inv-loop μ-loop) → Inside (start c .args .q) (c .before .loop .x) (start c .args .y)
-inside c = let p = start c .pre .1 .1 .1 in record { left = c .before .loop .inv .0; right = c .loop-test .taken; top = p .0; bottom = p .1 }
+inside c = let p = start c .pre .1 .1 .1 in record { left = c .before .loop .inv .low; right = c .loop-test .taken; top = p .0; bottom = p .1 }
 
 loop-holds : tie.Need-loop-holds Inv-loop μ-loop
 loop-holds c =
     let s = entry c in
     let q = s .args .q in
-    let none : q .x0 - q .x0 ≡ 0 = omega arith in
-    (omega arith, s .pre .1 .0 .x-order, rw none (walked-none _ (s .pre .0) (sym (fromTo-none (q .x0) (q .x0) _ _ (omega arith)))))
+    turns-none 1 _ (q .x0) (q .x1) (s .pre .0) (s .pre .1 .0 .x-order)
 
 visit-requires : tie.Need-visit-requires Inv-loop μ-loop
 visit-requires c κs =
     let at = c .before .before in
     let s = start at in
     let a = s .args in
-    let w = at .before .loop .inv .2 in
+    let w = at .before .loop .inv .walked in
     let k = s .pre .1 .0 in
-    (ready-again (s .pre .0) w, (covers-held (a .g .tiling) (a .tab .w) (a .q) (at .before .loop .x) (a .y) k (inside at), (s .pre .1 .1 .0, omega (arith, w .count, s .pre .1 .1 .1 .2, k .in-x, s .pre .0 .limits .width-limit, at .loop-test .taken))))
+    (ready-again (at .before .loop .cpe) (s .pre .0) (w .sound), (covers-held (a .g .tiling) (a .tab .w) (a .q) (at .before .loop .x) (a .y) k (inside at), (s .pre .1 .1 .0, omega (arith, w .count, s .pre .1 .1 .1 .2, k .in-x, s .pre .0 .limits .width-limit, at .loop-test .taken))))
 
 add-x : tie.Need-add-x Inv-loop μ-loop
 add-x c = search needs
@@ -72,27 +64,22 @@ loop-again c =
     let s = start at in
     let a = s .args in
     let S : Shared = sharedOf (a .g) (a .pinned .now) (a .inks .now) (a .cpp .now) in
-    let h = l .inv .0 in
-    let k : l .x + 1 - a .q .x0 ≡ l .x - a .q .x0 + 1 = omega (arith, h) in
     let now : State = state (l .cpe) (l .indices) (l .n) in
-    let held = covers-held (a .g .tiling) (a .tab .w) (a .q) (l .x) (a .y) (s .pre .1 .0) (inside at) in (
-      omega (arith, h),
-      omega (arith, at .loop-test .taken),
-      rw (fromTo-more _ _ _ _ h, k) (walked-more 1 (visitOf S (a .tab .w) (l .x) (a .y)) _ _ _ (l .inv .2) (c .before .before .before .before .visit .ensures)
-          (visit-sound S (a .tab .w) (a .indices .now) (length (a .cpe .now)) (l .x) (a .y) now held (l .inv .2 .sound)) (visit-most S (a .tab .w) (l .x) (a .y) now)),
-    )
+    let held = covers-held (a .g .tiling) (a .tab .w) (a .q) (l .x) (a .y) (s .pre .1 .0) (inside at) in
+    turns-more 1 (λ x. visitOf S (a .tab .w) x (a .y)) (a .q .x0) (a .q .x1) (c .before .before .before .before .visit .last .0) _ _ (l .inv) (at .loop-test .taken) (c .before .before .before .before .visit .ensures)
+    (visit-sound S (a .tab .w) (a .indices .now) (length (a .cpe .now)) (l .x) (a .y) now held (l .inv .walked .sound)) (visit-most S (a .tab .w) (l .x) (a .y) now)
 
 same-length : tie.Need-same-length Inv-loop μ-loop
-same-length c = c .before .loop .inv .2 .sound .cpe
+same-length c = c .before .loop .inv .walked .sound .cpe
 
 same-length-2 : tie.Need-same-length-2 Inv-loop μ-loop
-same-length-2 c = c .before .loop .inv .2 .sound .room ∙ sym (entry (c .before .before) .pre .0 .indices-room)
+same-length-2 c = c .before .loop .inv .walked .sound .room ∙ sym (entry (c .before .before) .pre .0 .indices-room)
 
 returns : tie.Need-returns Inv-loop μ-loop
 unfolding refineRow
 returns c =
-    let e : c .before .loop .x ≡ entry (c .before .before) .args .q .x1 = omega (arith, c .before .loop .inv .1, c .loop-test .left) in
-    rw e at (c .before .loop .inv .2 .same)
+    let q = entry (c .before .before) .args .q in
+    turns-all 1 _ (q .x0) (q .x1) (c .before .loop .inv) (omega (arith, c .loop-test .left))
 
 pub refine-row-spec : {M : Type 1} → statement M
 refine-row-spec =

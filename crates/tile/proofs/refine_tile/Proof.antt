@@ -1,5 +1,5 @@
 -- `tile::refine_tile` meets its contract: the tables are those of the kernels and the window. Assumes nothing.
-use mathlib.Core.Path.{_≡_, sym, ap, subst, _∙_}
+use mathlib.Core.Path.{_≡_, sym, ap, subst}
 use mathlib.Core.List.{List}
 use native.Mathlib.Omega.{arith}
 use lib.ListN.{length}
@@ -11,7 +11,7 @@ use Rattle.cost.specs.declared.Tables.{Tables}
 use Rattle.cost.specs.Tables.{tablesOf}
 use Rattle.search.specs.Shared.{Shared, shared, Ready}
 use Rattle.search.proofs.Laws.{ready-limits}
-use Rattle.tile.specs.Tile.{state, refineTile, noProgress, Covers}
+use Rattle.tile.specs.Tile.{Covers}
 use Rattle.tile.proofs.refine_tile.Statement.{statement}
 use Rattle.tile.proofs.refine_tile.Tie as tie
 
@@ -59,9 +59,7 @@ same-length-2 c = search needs
 returns : tie.Need-returns
 returns c =
     let r = c .before .before .before .before in
-    let s = start (tables r) in
-    let a = s .args in
-    r .refine-rows .ensures ∙ ap (λ (v : Rect). refineTile (world s) v (a .q) (state (a .cpe .now) (a .indices .now) noProgress)) (same-window (tables r))
+    rw (same-window (tables r)) at (r .refine-rows .ensures)
 
 pub refine-tile-spec : {M : Type 1} → statement M
 refine-tile-spec =

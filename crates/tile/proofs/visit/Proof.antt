@@ -1,5 +1,4 @@
 -- `tile::visit` meets its contract: a fair move is found and made. Assumes nothing.
-use mathlib.Core.Path.{sym, _∙_}
 use mathlib.Core.List.{[]}
 use borrow.Author.Needs.{needs}
 use Rattle.search.specs.Shared.{sharedOf}
@@ -31,9 +30,7 @@ is-pinned-requires c κs = ready-mask (entry c .pre .0) (entry c .pre .1 .0)
 
 returns : tie.Need-returns
 unfolding visitOf
-returns c =
-    let flag = sym (c .before .is-pinned .ensures) ∙ c .if1 .taken in
-    rw flag
+returns c = rw (← c .before .is-pinned .ensures, c .if1 .taken)
 
 evaluate-requires : tie.Need-evaluate-requires
 evaluate-requires c κs = search needs
@@ -65,10 +62,9 @@ returns-2 c =
     let m = moved (c .before) in
     let e = found m in
     let a = start e .args in
-    let free = sym (pinned e .is-pinned .ensures) ∙ e .before .before .before .if1 .left in
     let same = moved-shared (a .g .tiling) 0 (a .g .inks) [] (a .pinned .now) (a .inks .now) (a .cpp .now) (a .tab .w) (a .x) (a .y) (e .evaluate .result .mv) (a .indices .now) (a .cpe .now) in
     visited (sharedOf (a .g) (a .pinned .now) (a .inks .now) (a .cpp .now)) (a .tab .w) (a .x) (a .y) (a .cpe .now) (a .indices .now) (a .p) (e .evaluate .result)
-    free (e .evaluate .ensures) (m .apply-move .ensures .0 ∙ same) (m .apply-move .ensures .1) (c .count-move .ensures)
+    (rw (pinned e .is-pinned .ensures) at (e .before .before .before .if1 .left)) (e .evaluate .ensures) (rw same at (m .apply-move .ensures .0)) (m .apply-move .ensures .1) (c .count-move .ensures)
 
 pub visit-spec : {M : Type 1} → statement M
 visit-spec =

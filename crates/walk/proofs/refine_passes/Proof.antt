@@ -1,13 +1,12 @@
 -- `walk::refine_passes` meets its contract: between two passes the slices and the counts are those of the walk (`Rests`). Assumes nothing.
-use mathlib.Core.Path.{_≡_, refl, sym, _∙_, subst}
+use mathlib.Core.Path.{_≡_, refl, sym, _∙_}
 use Prim.Native.Nat.{_-_, _≤_, _<_}
 use native.Mathlib.Omega.{arith}
 use lib.ListN.{length}
 use borrow.Author.Needs.{needs}
-use Rattle.search.specs.Shared.{Shared, shared}
-use Rattle.walk.specs.Walk.{Refined, refined}
-use Rattle.walk.proofs.Laws.{SoundImage, ready-image}
-use Rattle.walk.proofs.Passes.{run0, Rests, rests-none, rests-more, rests-ended, rests-all, pass-sound}
+use Rattle.search.specs.Shared.{shared}
+use Rattle.tile.proofs.Walked.{ready-again}
+use Rattle.walk.proofs.Passes.{Rests, rests-none, rests-more, rests-ended, rests-all}
 use Rattle.walk.proofs.refine_passes.Statement.{statement}
 use Rattle.walk.proofs.refine_passes.Tie as tie
 
@@ -28,7 +27,7 @@ walk-pass-requires : tie.Need-walk-pass-requires Inv-loop μ-loop
 walk-pass-requires c κs =
     let earlier = c .before .before .before .before .before in
     let start = earlier .before .before .before .before .before in
-    ready-image _ (start .pre) (c .before .before .before .loop .inv .2 .sound)
+    ready-again _ (start .pre) (c .before .before .before .loop .inv .2 .sound)
 
 store-count-requires : tie.Need-store-count-requires Inv-loop μ-loop
 store-count-requires c κs =
@@ -78,13 +77,8 @@ loop-again c =
     let turn = at-loop-test .before in
     let earlier-2 = turn .before .before .before .before .before in
     let start = earlier-2 .before .before in
-    let a = start .args in
-    let S : Shared = shared (a .t) (a .count) (a .pinned .now) (a .inks .now) (a .cpp .now) in
-    let w = turn .loop .inv .2 in
-    let h : turn .loop .pass < length (a .accepted-per-pass .now) = omega (arith, at-loop-test .loop-test .taken, turn .loop .inv .1) in
-    let r : Refined = refined (turn .loop .cpe) (turn .loop .indices) (run0 (turn .loop .e)) in
-    let s = subst (SoundImage S (a .indices .now) (length (a .cpe .now))) (sym (at-walk-pass .walk-pass .ensures .0)) (pass-sound S (a .indices .now) (length (a .cpe .now)) r (w .sound)) in
-    (omega (arith, h), search needs, rw (c .before .before .before .store-count .ensures) (rests-more w h _ _ _ (at-walk-pass .walk-pass .ensures .0) s (c .if1 .left)))
+    let h : turn .loop .pass < length (start .args .accepted-per-pass .now) = omega (arith, at-loop-test .loop-test .taken, turn .loop .inv .1) in
+    (omega (arith, h), search needs, rw (c .before .before .before .store-count .ensures) (rests-more (turn .loop .inv .2) h _ _ _ (at-walk-pass .walk-pass .ensures .0) (c .if1 .left)))
 
 same-length-4 : tie.Need-same-length-4 Inv-loop μ-loop
 same-length-4 c = c .before .loop .inv .2 .sound .cpe

@@ -2,7 +2,8 @@
 use mathlib.Core.Path.{refl, _∙_}
 use native.Mathlib.Omega.{arith}
 use Rattle.tiling.proofs.Sizes.{sizes}
-use Rattle.walk.proofs.Laws.{between-none, ready-image}
+use Rattle.tile.proofs.Walked.{ready-again}
+use Rattle.walk.proofs.Laws.{between-none}
 use Rattle.walk.proofs.Passes.{run0, phase-more}
 use borrow.Author.Needs.{needs}
 use Rattle.walk.proofs.walk_pass.Statement.{statement}
@@ -22,7 +23,7 @@ walk-tiles-requires-2 c κs =
     let l = r .limits in
     let b0 = between-none {run = run0 (a .error)} _ r refl in
     let b1 = phase-more 0 _ _ _ l b0 (at-walk-tiles .walk-tiles .ensures) in
-    (ready-image _ r (b1 .sound), omega (arith, b1 .few, sizes (a .t) l .tiles-limit))
+    (ready-again _ r (b1 .sound), omega (arith, b1 .few, sizes (a .t) l .tiles-limit))
 
 walk-tiles-requires-3 : tie.Need-walk-tiles-requires-3
 walk-tiles-requires-3 c κs =
@@ -38,7 +39,7 @@ walk-tiles-requires-3 c κs =
     let b0 = between-none {run = run0 (a .error)} _ r refl in
     let b1 = phase-more 0 _ _ _ l b0 (at-walk-tiles .walk-tiles .ensures) in
     let b2 = phase-more 1 _ _ _ l b1 (at-walk-tiles2 .walk-tiles2 .ensures) in
-    (ready-image _ r (b2 .sound), omega (arith, b2 .few, sizes (a .t) l .tiles-limit))
+    (ready-again _ r (b2 .sound), omega (arith, b2 .few, sizes (a .t) l .tiles-limit))
 
 walk-tiles-requires-4 : tie.Need-walk-tiles-requires-4
 walk-tiles-requires-4 c κs =
@@ -57,7 +58,7 @@ walk-tiles-requires-4 c κs =
     let b1 = phase-more 0 _ _ _ l b0 (at-walk-tiles .walk-tiles .ensures) in
     let b2 = phase-more 1 _ _ _ l b1 (at-walk-tiles2 .walk-tiles2 .ensures) in
     let b3 = phase-more 2 _ _ _ l b2 (at-walk-tiles3 .walk-tiles3 .ensures) in
-    (ready-image _ r (b3 .sound), omega (arith, b3 .few, sizes (a .t) l .tiles-limit))
+    (ready-again _ r (b3 .sound), omega (arith, b3 .few, sizes (a .t) l .tiles-limit))
 
 same-length : tie.Need-same-length
 same-length c =

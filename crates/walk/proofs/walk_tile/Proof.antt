@@ -1,10 +1,10 @@
 -- `walk::walk_tile` meets its contract: the tile is refined on the whole image, and its answer joins the run. Assumes nothing.
-use mathlib.Core.Path.{_≡_, ap}
+use Prim.Native.Nat.{_≤_}
 use native.Mathlib.Omega.{arith}
 use Rattle.tiling.specs.Tiling.{image, tile}
 use Rattle.search.specs.Shared.{Shared, shared}
-use Rattle.tile.specs.Tile.{State, state, refineTile, noProgress}
-use Rattle.walk.specs.Walk.{joined, walkTile}
+use Rattle.tile.specs.Tile.{state, noProgress}
+use Rattle.walk.specs.Walk.{walkTile}
 use Rattle.walk.proofs.Laws.{image-covers, tile-few}
 use borrow.Author.Needs.{needs}
 use Rattle.walk.proofs.walk_tile.Statement.{statement}
@@ -32,9 +32,10 @@ add-t18 c =
     let start = earlier-2 .before in
     let a = start .args in
     let S : Shared = shared (a .t) (a .count) (a .pinned .now) (a .inks .now) (a .cpp .now) in
-    let e = rw (at-image-rect .image-rect .ensures, at-tile-rect .tile-rect .ensures) at (at-refine-tile .refine-tile .ensures) in
-    let n : at-refine-tile .refine-tile .result .accepted ≡ refineTile S (image (a .t)) (tile (a .t) (a .tile)) (state (a .cpe .now) (a .indices .now) noProgress) .progress .accepted = ap (λ (s : State). s .progress .accepted) e in
-    omega (arith, n, tile-few S (image (a .t)) (a .tile) (state (a .cpe .now) (a .indices .now) noProgress) (start .pre .0 .limits), start .pre .1 .1)
+    let few : at-refine-tile .refine-tile .result .accepted ≤ 4489 =
+    rw (← at-image-rect .image-rect .ensures, ← at-tile-rect .tile-rect .ensures, ← at-refine-tile .refine-tile .ensures)
+    at (tile-few S (image (a .t)) (a .tile) (state (a .cpe .now) (a .indices .now) noProgress) (start .pre .0 .limits)) in
+    omega (arith, few, start .pre .1 .1)
 
 same-length : tie.Need-same-length
 same-length c = search needs
@@ -49,9 +50,7 @@ returns c =
     let at-refine-tile = earlier .before .before .before in
     let at-tile-rect = at-refine-tile .before .before .before in
     let at-image-rect = at-tile-rect .before in
-    let earlier-2 = at-image-rect .before .before .before .before .before in
-    let start = earlier-2 .before in
-    ap (joined (start .args .run)) (rw (at-image-rect .image-rect .ensures, at-tile-rect .tile-rect .ensures) at (at-refine-tile .refine-tile .ensures))
+    rw (← at-image-rect .image-rect .ensures, ← at-tile-rect .tile-rect .ensures, ← at-refine-tile .refine-tile .ensures)
 
 pub walk-tile-spec : {M : Type 1} → statement M
 walk-tile-spec =

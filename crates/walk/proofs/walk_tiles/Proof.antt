@@ -9,8 +9,9 @@ use Rattle.base.proofs.LoopLaws.{upTo-none, upTo-more}
 use Rattle.tiling.specs.Tiling.{tiles}
 use Rattle.tiling.proofs.Sizes.{sizes}
 use Rattle.search.specs.Shared.{Shared, shared}
+use Rattle.tile.proofs.Walked.{ready-again}
 use Rattle.walk.specs.Walk.{Refined, refined, walkTry, walkTiles}
-use Rattle.walk.proofs.Laws.{Between, between-none, between-more, ready-image, walkTry-sound, walkTry-few}
+use Rattle.walk.proofs.Laws.{Between, between-none, between-more, walkTry-sound, walkTry-few}
 use Rattle.walk.proofs.walk_tiles.Statement.{statement}
 use Rattle.walk.proofs.walk_tiles.Tie as tie
 
@@ -36,7 +37,7 @@ walk-try-requires c κs =
     let start = earlier .before .before .before .before .before in
     let w = c .before .before .before .loop .inv .2 in
     let few = sizes (start .args .t) (start .pre .0 .limits) .tiles-limit in
-    (ready-image _ (start .pre .0) (w .sound), (omega (arith, c .before .before .loop-test .taken, c .before .before .before .loop .inv .1), omega (arith, w .few, few, c .before .before .loop-test .taken, c .before .before .before .loop .inv .1, start .pre .1)))
+    (ready-again _ (start .pre .0) (w .sound), (omega (arith, c .before .before .loop-test .taken, c .before .before .before .loop .inv .1), omega (arith, w .few, few, c .before .before .loop-test .taken, c .before .before .before .loop .inv .1, start .pre .1)))
 
 add-tile : tie.Need-add-tile Inv-loop μ-loop
 add-tile c = search needs

@@ -1,7 +1,4 @@
 -- `walk::walk_try` meets its contract: each arm is one of the definition's. Assumes nothing.
-use mathlib.Core.Path.{_≡_, sym, _∙_}
-use mathlib.Core.Bool.{true, false}
-use Rattle.tiling.specs.Tiling.{inPhase}
 use Rattle.walk.specs.Walk.{walkTry}
 use borrow.Author.Needs.{needs}
 use Rattle.walk.proofs.walk_try.Statement.{statement}
@@ -24,21 +21,11 @@ unfolding walkTry
 returns c =
     let earlier = c .before .before .before .before .before in
     let at-if1 = earlier .before .before in
-    let at-is-in-phase = at-if1 .before in
-    let earlier-2 = at-is-in-phase .before .before .before .before .before in
-    let start = earlier-2 .before in
-    let a = start .args in
-    let due : inPhase (a .t) (a .phase) (a .tile) ≡ true = sym (at-is-in-phase .is-in-phase .ensures) ∙ at-if1 .if1 .taken in
-    rw due (c .before .before .before .before .walk-tile .ensures)
+    rw (← at-if1 .before .is-in-phase .ensures, at-if1 .if1 .taken) (c .before .before .before .before .walk-tile .ensures)
 
 returns-2 : tie.Need-returns-2
 unfolding walkTry
-returns-2 c =
-    let earlier = c .before .before .before .before .before in
-    let start = earlier .before .before in
-    let a = start .args in
-    let other : inPhase (a .t) (a .phase) (a .tile) ≡ false = sym (c .before .is-in-phase .ensures) ∙ c .if1 .left in
-    rw other
+returns-2 c = rw (← c .before .is-in-phase .ensures, c .if1 .left)
 
 pub walk-try-spec : {M : Type 1} → statement M
 walk-try-spec =
