@@ -4,8 +4,11 @@
 ghost use mathlib.Core.Path.{_≡_};
 ghost use Prim.Native.Nat as nat;
 ghost use Prim.Native.Nat.{_-_, _<_, _≤_};
+ghost use lib.ListN.{length};
+ghost use Rattle.base.specs.F64.{f0};
 ghost use Rattle.base.specs.Grid as grid;
 ghost use Rattle.base.specs.Limits.{maxSide};
+ghost use Rattle.base.specs.Loop.{table};
 ghost use Rattle.base.specs.Refusal.{test, accepted, isAccepted};
 ghost use Rattle.base.specs.Refusal as spec;
 
@@ -96,4 +99,13 @@ pub fn place(k: usize, w: Rect, x: usize, y: usize) -> usize
     ensures { λ i. ⌜ i ≡ grid.place k w x y 0 ⌝ }
 {
     k * ((y - w.y0) * (w.x1 - w.x0) + (x - w.x0))
+}
+
+// A list of zeros.
+pub fn fill_zero(list: &mut [f64])
+    ensures { λ _. ⌜ now (list .exit) ≡ table (length (now (list .entry))) (λ i. f0) ⌝ }
+{
+    for i in 0..list.len() {
+        list[i] = 0.0;
+    }
 }

@@ -6,8 +6,6 @@ use base::smaller;
 ghost use mathlib.Core.Path.{_≡_};
 ghost use Prim.Native.Nat.{suc, _+_, _-_, _*_, _<_, _≤_};
 ghost use lib.ListN.{length};
-ghost use Rattle.base.specs.Loop.{table};
-ghost use Rattle.base.specs.F64.{f0};
 ghost use Rattle.correlate.specs.Correlate.{at, tapSum, Changed, lineOf, Spread, rowTaps, RowFits, SpreadFits};
 
 // Rows of sums that stand among other lines of a list: row y is line first + step·y.
@@ -15,15 +13,6 @@ pub struct Lines {
     pub width: usize,
     pub first: usize,
     pub step: usize,
-}
-
-// Where sums start.
-pub fn fill_zero(list: &mut [f64])
-    ensures { λ _. ⌜ now (list .exit) ≡ table (length (now (list .entry))) (λ i. f0) ⌝ }
-{
-    for i in 0..list.len() {
-        list[i] = 0.0;
-    }
 }
 
 // All taps, added to all sums: four by four where every tap falls on a value, one by one at both ends.

@@ -102,7 +102,7 @@ fn correlate_channels(
     requires { ⌜ (length (now line) ≡ t .width) × (length (now cpe) ≡ 3 * (t .height * t .width)) ⌝ }
     ensures { λ _. ⌜ FieldLines t (scene (now (pixels .entry)) (now (indices .entry)) (now (pinned .entry)) (now (inks .entry))) (now (cpp .entry)) 3 (now (cpe .exit)) ⌝ }
 {
-    correlate::fill_zero(cpe);
+    base::fill_zero(cpe);
     let mut c = 0;
     while c < 3 {
         correlate_channel(lut, pixels, indices, pinned, inks, cpp, t, c, line, cpe);

@@ -74,7 +74,7 @@ fn square_band(
     requires { ⌜ (length (now sums) ≤ 64) × (y + length (now sums) ≤ v .frame .height + 2 * v .frame .radius) ⌝ }
     ensures { λ _. ⌜ now (sums .exit) ≡ table (length (now (sums .entry))) (λ i. rowError (v .frame) (scene (now (pixels .entry)) (now (indices .entry)) [] (now (inks .entry))) (mirrorOf (now (taps .entry))) (v .channel) (y + i)) ⌝ }
 {
-    correlate::fill_zero(sums);
+    base::fill_zero(sums);
     let end = v.frame.width + 2 * v.frame.radius;
     let mut x = 0;
     while x < end {

@@ -78,7 +78,7 @@ pub fn square_block(
     let none = &indices[..0];
     let m = block::column_count(b);
     let l = b.lines;
-    correlate::fill_zero(out);
+    base::fill_zero(out);
     block::correlate_block(
         lut,
         pixels,

@@ -84,9 +84,7 @@ fn clear_states(tile_states: &mut [u8])
 fn clear_deltas(deltas: &mut [f64])
     ensures { λ _. ⌜ now (deltas .exit) ≡ replicate (length (now (deltas .entry))) f0 ⌝ }
 {
-    for i in 0..deltas.len() {
-        deltas[i] = 0.0;
-    }
+    base::fill_zero(deltas);
 }
 
 // Open a job.

@@ -4,10 +4,10 @@ use Prim.Native.Nat.{_-_, _≤_, _<_}
 use native.Mathlib.Omega.{arith}
 use borrow.Author.Needs.{needs}
 use lib.ListN.{length, length-set}
 use Rattle.base.specs.F64.{f0}
 use Rattle.base.proofs.TableLaws.{filled, fill-none, fill-turn, fill-done}
-use Rattle.correlate.proofs.fill_zero.Statement.{statement}
-use Rattle.correlate.proofs.fill_zero.Tie as tie
+use Rattle.base.proofs.fill_zero.Statement.{statement}
+use Rattle.base.proofs.fill_zero.Tie as tie
 
 abbrev Inv-loop : tie.InvT-loop
 Inv-loop list₀ i₀ i-end list i = (i ≤ i-end) × (i-end ≡ length list₀) × (length list ≡ length list₀) × (list ≡ filled i (λ j. f0) list₀)
