@@ -36,14 +36,3 @@ pub enum TileState {
     Out,
     Back,
 }
-
-// The byte that a call writes of a tile.
-pub fn state_byte(state: TileState) -> u8
-    ensures { λ b. ⌜ b ≡ byteOf state ⌝ }
-{
-    match state {
-        TileState::Waiting => 0,
-        TileState::Out => 1,
-        TileState::Back => 2,
-    }
-}

@@ -46,7 +46,7 @@ fn released_state(t: Tiling, phase: usize, tile: usize, state: u8) -> u8
     ensures { λ b. ⌜ b ≡ cond (inPhase t phase tile) (byteOf Waiting) state ⌝ }
 {
     if tiling::is_in_phase(t, phase, tile) {
-        return job::state_byte(TileState::Waiting);
+        return states::state_byte(TileState::Waiting);
     }
     state
 }

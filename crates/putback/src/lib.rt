@@ -44,7 +44,7 @@ fn put_back(
     let plan = r.plan;
     let i = tile as usize;
     regions::write_region(plan.tiling, i, indices, cpe, copy_cpe, copy_indices);
-    tile_states[i] = job::state_byte(TileState::Back);
+    tile_states[i] = states::state_byte(TileState::Back);
     deltas[i] = delta;
     let mut record = r;
     record.accepted = r.accepted + accepted;

@@ -77,7 +77,7 @@ fn clear_states(tile_states: &mut [u8])
     ensures { λ _. ⌜ now («tile_states» .exit) ≡ replicate (length (now («tile_states» .entry))) (byteOf Waiting) ⌝ }
 {
     for i in 0..tile_states.len() {
-        tile_states[i] = job::state_byte(TileState::Waiting);
+        tile_states[i] = states::state_byte(TileState::Waiting);
     }
 }
 

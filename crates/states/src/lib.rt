@@ -1,7 +1,18 @@
-// What a byte of `tile_states` says of its tile.
+// The states of tiles as bytes of `tile_states`.
 use job::TileState;
 ghost use mathlib.Core.Path.{_≡_};
-ghost use Rattle.job.specs.Record.{stateOf, inState};
+ghost use Rattle.job.specs.Record.{byteOf, stateOf, inState};
+
+// The byte that a call writes of a tile.
+pub fn state_byte(state: TileState) -> u8
+    ensures { λ b. ⌜ b ≡ byteOf state ⌝ }
+{
+    match state {
+        TileState::Waiting => 0,
+        TileState::Out => 1,
+        TileState::Back => 2,
+    }
+}
 
 // What a byte says of its tile.
 fn tile_state(byte: u8) -> TileState
@@ -20,5 +31,5 @@ fn tile_state(byte: u8) -> TileState
 pub fn is_in(byte: u8, wanted: TileState) -> bool
     ensures { λ b. ⌜ b ≡ inState wanted byte ⌝ }
 {
-    job::state_byte(tile_state(byte)) == job::state_byte(wanted)
+    state_byte(tile_state(byte)) == state_byte(wanted)
 }

@@ -34,7 +34,7 @@ fn take(
         copy_cpe,
         copy_indices,
     );
-    tile_states[tile as usize] = job::state_byte(TileState::Out);
+    tile_states[tile as usize] = states::state_byte(TileState::Out);
     status
 }
 
