@@ -33,6 +33,8 @@ pub struct Input {
     pub ppi: f64,
     /// Whether a caption is pinned in a corner.
     pub caption: bool,
+    /// Whether the picture has colours that no mixture of the panel's inks gives.
+    pub vivid: bool,
 }
 
 /// Black, white, green, blue, red, yellow and orange of a panel.
@@ -43,7 +45,7 @@ pub fn image(input: Input) -> Image {
     let Input { width, height, .. } = input;
     let palette = palette(input.inks);
     let at = |i: usize| (i % width, i / width);
-    let pixels: Vec<[u8; 3]> = (0..width * height).map(at).map(|(x, y)| picture(x, y, width, height)).collect();
+    let pixels: Vec<[u8; 3]> = (0..width * height).map(at).map(|(x, y)| picture(x, y, input)).collect();
     let mut indices = match input.start {
         Start::Diffused => diffused(&pixels, width, &palette),
         Start::Random => random(pixels.len(), input.inks),
@@ -87,8 +89,20 @@ fn palette(inks: usize) -> Vec<[u8; 3]> {
     (0..inks).map(ink).collect()
 }
 
-/// A picture-like image: a sky that darkens upwards, three shaded balls with edges, ground with a fine texture.
-fn picture(x: usize, y: usize, width: usize, height: usize) -> [u8; 3] {
+/// A picture-like image. Where it is not vivid its colours are drawn towards grey and to the panel's range, as a host does
+/// before it dithers: mixtures of the panel's inks give each of them.
+fn picture(x: usize, y: usize, input: Input) -> [u8; 3] {
+    let scene = scene(x, y, input.width, input.height);
+    if input.vivid {
+        return scene;
+    }
+    let wide = scene.map(u32::from);
+    let grey = (2 * wide[0] + 5 * wide[1] + wide[2]) / 8;
+    wide.map(|channel| ((28 * channel + 72 * grey) / 100 * 70 / 100 + 45) as u8)
+}
+
+/// A sky that darkens upwards, three shaded balls with edges, ground with a fine texture.
+fn scene(x: usize, y: usize, width: usize, height: usize) -> [u8; 3] {
     let (x, y, width, height) = (x as i64, y as i64, width as i64, height as i64);
     for (centre_x, centre_y, radius, colour) in
         [(2, 5, 3, [200, 60, 50]), (5, 6, 2, [60, 110, 70]), (8, 4, 2, [220, 190, 60])]

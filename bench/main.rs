@@ -23,7 +23,7 @@ use times::Times;
 const MAX_PASSES: usize = 10;
 
 /// The input of the tables of parts, sizes and passes.
-const PICTURE: Input = Input { start: Start::Diffused, width: 800, height: 480, inks: 7, ppi: 127.0, caption: false };
+const PICTURE: Input = Input { start: Start::Diffused, width: 800, height: 480, inks: 7, ppi: 127.0, caption: false, vivid: false };
 
 fn main() -> ExitCode {
     let words: Vec<String> = std::env::args().skip(1).collect();
@@ -176,6 +176,7 @@ fn inputs() -> Vec<Input> {
         inputs.extend([40.0, 127.0, 340.0].map(|ppi| Input { ppi, ..input }));
     }
     inputs.extend([PICTURE, random].map(|input| Input { caption: true, ..input }));
+    inputs.push(Input { vivid: true, ..PICTURE });
     inputs.extend([1000, 1024, 1100, 4096].map(|width| Input { width, height: 240, ..random }));
     for input in [PICTURE, random] {
         inputs.extend([2, 7, 64, 256].map(|inks| Input { width: 400, height: 240, inks, ..input }));
@@ -205,9 +206,10 @@ fn print_inputs(runs: usize) {
         let (ours, rusts) = (passes_of(ours), passes_of(rusts));
         let [ours, rusts] = [ours, rusts].map(|times| [times.median().processor, times.least().processor]);
         println!(
-            "| {}{} | {}x{} | {} | {} | {passes} | {:.0}, {:.0} | {:.0}, {:.0} | {:.2}, {:.2} | {:.0} |",
+            "| {}{}{} | {}x{} | {} | {} | {passes} | {:.0}, {:.0} | {:.0}, {:.0} | {:.2}, {:.2} | {:.0} |",
             if input.start == Start::Diffused { "error-diffused" } else { "random" },
             if input.caption { ", caption pinned" } else { "" },
+            if input.vivid { ", vivid" } else { "" },
             image.width,
             image.height,
             input.inks,
@@ -224,8 +226,8 @@ fn print_inputs(runs: usize) {
     println!();
     let of = |wanted: Input| {
         let same = |input: &Input| {
-            (input.start, input.width, input.height, input.caption)
-                == (wanted.start, wanted.width, wanted.height, wanted.caption)
+            (input.start, input.width, input.height, input.caption, input.vivid)
+                == (wanted.start, wanted.width, wanted.height, wanted.caption, wanted.vivid)
                 && (input.inks, input.ppi) == (wanted.inks, wanted.ppi)
         };
         rows.iter().find(|row| same(&row.0)).map(|row| passes_of(&row.3))

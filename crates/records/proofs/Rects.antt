@@ -8,17 +8,15 @@ use Rattle.tiling.specs.Tiling.{Limits, image, tiles, tile, region}
 use Rattle.tiling.proofs.TilingLaws.{tile-some, tile-within, region-within, tile-in-region}
 
 abbrev Sides : Rect → Type 0
-Sides r = (r .x0 ≤ r .x1) × (r .x1 ≤ 4096) × (r .y0 ≤ r .y1) × (r .y1 ≤ 4096)
+Sides r = ((r .x0 ≤ r .x1) × (r .x1 ≤ 4096)) × ((r .y0 ≤ r .y1) × (r .y1 ≤ 4096))
 
 module _ (T : Tiling) (h : Limits T) (t : ℕ) (q : t < tiles T) where
   sides : (W : Rect) → Within (image T) W → Within W (tile T t) → Sides W
   unfolding image
   sides W i o =
       let some = tile-some T t q in (
-        omega (arith, o .left, some .0, o .right),
-        omega (arith, i .right, h .width-limit),
-        omega (arith, o .top, some .1, o .bottom),
-        omega (arith, i .bottom, h .height-limit),
+        (omega (arith, o .left, some .0, o .right), omega (arith, i .right, h .width-limit)),
+        (omega (arith, o .top, some .1, o .bottom), omega (arith, i .bottom, h .height-limit)),
       )
 
   pub tile-sides : Sides (tile T t)

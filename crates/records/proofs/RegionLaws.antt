@@ -12,15 +12,15 @@ module _ (T : Tiling) (h : Limits T) (t : ℕ) (q : t < tiles T) where
   unfolding image
   image-holds =
       let s = region-sides T h t q in
-      record { within = region-within T t; columns = s .0; lines = s .2; wide = h .width-limit; high = h .height-limit }
+      record { within = region-within T t; columns = s .0 .0; lines = s .1 .0; wide = h .width-limit; high = h .height-limit }
 
   pub region-holds : Holds (region T t) (region T t)
   region-holds =
       let s = region-sides T h t q in
       record {
         within = record { left = omega arith; right = omega arith; top = omega arith; bottom = omega arith };
-        columns = s .0;
-        lines = s .2;
-        wide = s .1;
-        high = s .3;
+        columns = s .0 .0;
+        lines = s .1 .0;
+        wide = s .0 .1;
+        high = s .1 .1;
       }

@@ -103,7 +103,8 @@ pub fn check_turn(s: Status, r: JobRecord, tile: u64) -> Status
 }
 
 fn rect_size(r: Rect) -> usize
-    requires { ⌜ (r .x0 ≤ r .x1) × (r .x1 ≤ maxSide) × (r .y0 ≤ r .y1) × (r .y1 ≤ maxSide) ⌝ }
+    requires { ⌜ (r .x0 ≤ r .x1) × (r .x1 ≤ maxSide) ⌝ }
+    requires { ⌜ (r .y0 ≤ r .y1) × (r .y1 ≤ maxSide) ⌝ }
     ensures { λ n. ⌜ n ≡ area r ⌝ }
 {
     (r.y1 - r.y0) * (r.x1 - r.x0)

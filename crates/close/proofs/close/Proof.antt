@@ -84,10 +84,8 @@ returns-2 c =
     let a = start .args in
     let r = a .r in
     let v = valid (start) (at-check-close .check-close .ensures) (at-if1 .if1 .left) in
-    let error = at-add-deltas .add-deltas .ensures ∙ ap (λ n. withDeltas (r .plan .tiling) (r .phase) (a .deltas .now) n (r .error)) (v .deltas-length) in
-    ap (λ q. closed (at-check-close .check-close .result) q (c .before .before .before .store-count .last .1 .0) (at-release .release .last .1 .1 .0)) (c .next-record .ensures ∙ ap (nextWith r) error)
-    ∙ ap₂ (closed (at-check-close .check-close .result) (nextRecord r (a .deltas .now))) (c .before .before .before .store-count .ensures) (at-release .release .ensures)
-    ∙ close-answers r (a .accepted-per-pass .now) (a .tile-states .now) (a .deltas .now) .made _ (at-check-close .check-close .ensures) (at-if1 .if1 .left)
+    rw (c .next-record .ensures, c .before .before .before .store-count .ensures, at-release .release .ensures, at-add-deltas .add-deltas .ensures, v .deltas-length)
+    (close-answers r (a .accepted-per-pass .now) (a .tile-states .now) (a .deltas .now) .made _ (at-check-close .check-close .ensures) (at-if1 .if1 .left))
 
 pub close-spec : {M : Type 1} → statement M
 close-spec =

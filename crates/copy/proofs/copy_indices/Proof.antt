@@ -17,10 +17,14 @@ Inv-loop from f to₀ p w n y₀ to y =
 abbrev μ-loop : tie.MeasureT-loop
 μ-loop from f to₀ p w n y₀ to y = w .y1 - y
 
+-- where the function began
+abbrev begun : tie.After-place2 Inv-loop μ-loop → tie.Start Inv-loop μ-loop
+begun c = let earlier = c .before .before .before .before .before in earlier .before .before .before
+
 -- both rows lie in their lists
 from-room : (c : tie.After-place2 Inv-loop μ-loop) →
-    (c .before .place .result + 1 * width (c .before .before .before .before .before .before .before .before .args .w) ≤ length (c .before .before .before .before .before .before .before .before .args .from .now))
-    × (length (c .before .before .before .before .before .before .before .before .args .from .now) ≤ 16777216)
+    (c .before .place .result + 1 * width (begun c .args .w) ≤ length (begun c .args .from .now))
+    × (length (begun c .args .from .now) ≤ 16777216)
 from-room c =
     let earlier = c .before .before .before .before .before in
     let s = earlier .before .before .before in
@@ -30,7 +34,7 @@ from-room c =
     (omega (arith, room, c .before .place .ensures, s .pre .1 .0), omega (arith, held-area (s .args .f) (s .args .w) h, s .pre .1 .0))
 
 to-room : (c : tie.After-place2 Inv-loop μ-loop) →
-    (c .place2 .result + 1 * width (c .before .before .before .before .before .before .before .before .args .w) ≤ length (c .before .before .before .before .loop .to))
+    (c .place2 .result + 1 * width (begun c .args .w) ≤ length (c .before .before .before .before .loop .to))
     × (length (c .before .before .before .before .loop .to) ≤ 16777216)
 to-room c =
     let earlier = c .before .before .before .before .before in

@@ -16,9 +16,13 @@ Inv-loop lines₀ l a b values kernel size top lead n y₀ lines y = (n ≡ l .w
 abbrev μ-loop : tie.MeasureT-loop
 μ-loop lines₀ l a b values kernel size top lead n y₀ lines y = b - y
 
+-- where the function began
+abbrev begun : tie.After-line-start Inv-loop μ-loop → tie.Start Inv-loop μ-loop
+begun c = let earlier = c .before .before .before .before .before in earlier .before
+
 -- the line and the kernel's row lie in their lists
 line-room : (c : tie.After-line-start Inv-loop μ-loop) →
-    (c .line-start .result + c .before .before .before .before .before .before .args .l .width ≤ length (c .before .before .loop .lines)) × (length (c .before .before .loop .lines) ≤ 67108864)
+    (c .line-start .result + begun c .args .l .width ≤ length (c .before .before .loop .lines)) × (length (c .before .before .loop .lines) ≤ 67108864)
 line-room c =
     let earlier = c .before .before .before .before .before in
     let s = earlier .before in
@@ -27,9 +31,9 @@ line-room c =
     (omega (arith, room, c .line-start .ensures, l .inv .3 .long), omega (arith, s .pre .0 .most, l .inv .3 .long))
 
 taps-room : (c : tie.After-line-start Inv-loop μ-loop) →
-    (c .before .before .loop .y ≤ c .before .before .before .before .before .before .args .top)
-    × ((c .before .before .before .before .before .before .args .top - c .before .before .loop .y) * c .before .before .before .before .before .before .args .size + c .before .before .before .before .before .before .args .size ≤ length (c .before .before .before .before .before .before .args .kernel .now))
-    × (length (c .before .before .before .before .before .before .args .kernel .now) ≤ 65536)
+    (c .before .before .loop .y ≤ begun c .args .top)
+    × ((begun c .args .top - c .before .before .loop .y) * begun c .args .size + begun c .args .size ≤ length (begun c .args .kernel .now))
+    × (length (begun c .args .kernel .now) ≤ 65536)
 taps-room c =
     let earlier = c .before .before .before .before .before in
     let s = earlier .before in

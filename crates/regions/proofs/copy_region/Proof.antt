@@ -1,15 +1,10 @@
 -- `copy_region` meets its contract: what is copied over the whole of a copy is the region. Assumes nothing.
 use Prim.Native.Nat.{_*_}
 use native.Mathlib.Omega.{arith}
-use mathlib.Core.Path.{_≡_, ap, ap₂, sym, _∙_}
-use lib.ListN.{length}
-use lib.Ieee.{nan}
-use Rattle.base.specs.Grid.{area}
-use Rattle.base.proofs.GridLaws.{length-crop}
-use Rattle.copy.proofs.Parts.{paste-whole}
-use Rattle.job.specs.Copy.{pixels, copyOf}
+use mathlib.Core.Path.{_≡_, ap, sym, _∙_}
 use Rattle.prepare.proofs.Laws.{image-area}
 use Rattle.records.proofs.RegionLaws.{image-holds, region-holds}
+use Rattle.regions.proofs.Laws.{copied}
 use borrow.Author.Needs.{needs}
 use Rattle.regions.proofs.copy_region.Statement.{statement}
 use Rattle.regions.proofs.copy_region.Tie as tie
@@ -46,16 +41,16 @@ same-length-2 : tie.Need-same-length-2
 same-length-2 c = search needs
 
 returns : tie.Need-returns
-unfolding copyOf
 returns c =
     let earlier = c .before .before .before .before .before in
     let at-copy-cpe = earlier .before in
     let at-region-rect = at-copy-cpe .before .before in
     let at-image-rect = at-region-rect .before in
-    let W = at-region-rect .region-rect .result in
-    let P = at-image-rect .image-rect .result in
-    ap₂ pixels (at-copy-cpe .copy-cpe .ensures ∙ paste-whole nan 3 W _ _ (length-crop nan 3 P W _)) (c .before .before .copy-indices .ensures ∙ paste-whole 0 1 W _ _ (length-crop 0 1 P W _))
-    ∙ rw (at-image-rect .image-rect .ensures, at-region-rect .region-rect .ensures)
+    let start = at-image-rect .before .before .before .before .before in
+    let a = start .args in
+    copied (a .t) (a .tile) (at-image-rect .image-rect .result) (at-region-rect .region-rect .result) (at-image-rect .image-rect .ensures) (at-region-rect .region-rect .ensures)
+    (a .cpe .now) (a .copy-cpe .now) (at-copy-cpe .copy-cpe .last .1 .1 .0) (at-copy-cpe .copy-cpe .ensures)
+    (a .indices .now) (a .copy-indices .now) (c .before .before .copy-indices .last .1 .1 .0) (c .before .before .copy-indices .ensures)
 
 pub copy-region-spec : {M : Type 1} → statement M
 copy-region-spec =

@@ -1,14 +1,12 @@
 -- `write_region` meets its contract: what is copied over the region is the whole of a copy. Assumes nothing.
 use Prim.Native.Nat.{_*_}
 use native.Mathlib.Omega.{arith}
-use mathlib.Core.Path.{_≡_, ap, ap₂, sym, _∙_}
+use mathlib.Core.Path.{_≡_, ap, sym, _∙_}
 use lib.ListN.{length}
-use lib.Ieee.{nan}
-use Rattle.base.specs.Grid.{area, paste}
-use Rattle.copy.proofs.Parts.{crop-whole}
+use Rattle.base.specs.Grid.{area}
 use Rattle.prepare.proofs.Laws.{image-area}
-use Rattle.job.specs.Copy.{pixels, writtenBack}
 use Rattle.records.proofs.RegionLaws.{image-holds, region-holds}
+use Rattle.regions.proofs.Laws.{written}
 use borrow.Author.Needs.{needs}
 use Rattle.regions.proofs.write_region.Statement.{statement}
 use Rattle.regions.proofs.write_region.Tie as tie
@@ -45,7 +43,6 @@ same-length-2 : tie.Need-same-length-2
 same-length-2 c = search needs
 
 returns : tie.Need-returns
-unfolding writtenBack
 returns c =
     let earlier = c .before .before .before .before .before in
     let at-copy-cpe = earlier .before in
@@ -55,12 +52,11 @@ returns c =
     let p = start .pre in
     let a = start .args in
     let W = at-region-rect .region-rect .result in
-    let P = at-image-rect .image-rect .result in
     let room : length (a .copy-cpe .now) ≡ 3 * area W = rw (at-region-rect .region-rect .ensures) (p .1 .1 .0) in
     let places : length (a .copy-indices .now) ≡ 1 * area W = rw (at-region-rect .region-rect .ensures) (omega (arith, p .1 .1 .1)) in
-    ap₂ pixels (at-copy-cpe .copy-cpe .ensures ∙ ap (paste nan 3 P W (a .cpe .now)) (crop-whole nan 3 W (a .copy-cpe .now) room))
-    (c .before .before .copy-indices .ensures ∙ ap (paste 0 1 P W (a .indices .now)) (crop-whole 0 1 W (a .copy-indices .now) places))
-    ∙ rw (at-image-rect .image-rect .ensures, at-region-rect .region-rect .ensures)
+    written (a .t) (a .tile) (at-image-rect .image-rect .result) W (at-image-rect .image-rect .ensures) (at-region-rect .region-rect .ensures)
+    (a .cpe .now) (a .copy-cpe .now) (at-copy-cpe .copy-cpe .last .1 .1 .0) room (at-copy-cpe .copy-cpe .ensures)
+    (a .indices .now) (a .copy-indices .now) (c .before .before .copy-indices .last .1 .1 .0) places (c .before .before .copy-indices .ensures)
 
 pub write-region-spec : {M : Type 1} → statement M
 write-region-spec =

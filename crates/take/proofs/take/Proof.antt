@@ -88,9 +88,8 @@ returns-2 : tie.Need-returns-2
 returns-2 c =
     let k = passed c in
     let s = start (k .before .before) in
-    rw (c .state-byte .ensures)
-    (ap (λ p. taken (k .before .before .check-take .result) (s .args .r) (set (s .args .tile-states .now) (s .args .tile) 1) p) (c .before .before .before .before .before .copy-region .ensures)
-    ∙ take-answers (s .args .r) (s .args .tile) (image s) (s .args .tile-states .now) (copies s) .made _ (k .before .before .check-take .ensures) (k .if1 .left))
+    rw (c .state-byte .ensures, c .before .before .before .before .before .copy-region .ensures)
+    (take-answers (s .args .r) (s .args .tile) (image s) (s .args .tile-states .now) (copies s) .made _ (k .before .before .check-take .ensures) (k .if1 .left))
 
 pub take-spec : {M : Type 1} → statement M
 take-spec =

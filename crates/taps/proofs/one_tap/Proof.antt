@@ -9,8 +9,12 @@ use borrow.Author.Needs.{needs}
 use Rattle.taps.proofs.one_tap.Statement.{statement}
 use Rattle.taps.proofs.one_tap.Tie as tie
 
+-- where the function began
+abbrev begun : tie.Else1 → tie.Start
+begun c = let earlier = c .before .before .before .before .before in earlier .before .before .before
+
 -- the sums that the tap reaches
-reached : (c : tie.Else1) → Reach (c .before .before .before .before .before .before .before .before .args .a) (c .before .before .before .before .before .before .before .before .args .b) (length (c .before .before .before .before .before .before .before .before .args .values .now)) (c .before .before .before .before .before .before .before .before .args .lead) (c .before .before .before .before .before .before .before .before .args .d) (c .before .before .before .larger .result) (c .before .smaller .result)
+reached : (c : tie.Else1) → Reach (begun c .args .a) (begun c .args .b) (length (begun c .args .values .now)) (begun c .args .lead) (begun c .args .d) (c .before .before .before .larger .result) (c .before .smaller .result)
 reached c =
     let earlier = c .before .before .before .before .before in
     let start = earlier .before .before .before in

@@ -101,11 +101,8 @@ returns-2 c =
     let earlier-2 = at-check-work .before .before .before .before .before in
     let s = earlier-2 .before .before .before in
     let a = s .args in
-    let S = jobShared (a .r) (a .pinned .now) (a .inks .now) (a .cpp .now) in
-    ap (worked (at-check-work .check-work .result))
-    (c .before .before .before .before .refine-tile .ensures
-    ∙ ap₂ (λ W Q. refineTile S W Q (state (a .copy-cpe .now) (a .copy-indices .now) noProgress)) (at-region-rect .region-rect .ensures) (at-tile-rect .tile-rect .ensures))
-    ∙ work-answers (a .r) (a .tile) (a .pinned .now) (a .cpp .now) (copies s) (a .inks .now) .made _ (at-check-work .check-work .ensures) (at-if1 .if1 .left)
+    rw (c .before .before .before .before .refine-tile .ensures, at-region-rect .region-rect .ensures, at-tile-rect .tile-rect .ensures)
+    (work-answers (a .r) (a .tile) (a .pinned .now) (a .cpp .now) (copies s) (a .inks .now) .made _ (at-check-work .check-work .ensures) (at-if1 .if1 .left))
 
 pub work-spec : {M : Type 1} → statement M
 work-spec =

@@ -1,4 +1,8 @@
 -- `work_run` meets its contract: once the run has passed it is the call on the record, and its run is only read. Assumes nothing.
+use Rattle.base.specs.Refusal.{status}
+use Rattle.moves.specs.Moves.{progressOf}
+use Rattle.tile.specs.Tile.{state}
+use Rattle.job.specs.Work.{worked}
 use Rattle.job.specs.Boundary.{workRun}
 use Rattle.words.proofs.RunLaws.{unread, read}
 use borrow.Author.Needs.{needs}
@@ -48,7 +52,10 @@ returns-2 c =
     let k = passed m in
     let r = run k in
     let ok = r .read .ensures .1 (k .if1 .left) in
-    read (start r .args .«record» .now) (r .read .ensures .0) _ _ (k .if1 .left) (ok .1) (m .work .ensures)
+    let w = m .work .result in
+    let copy = m .work .last .1 .1 .1 .1 in
+    read (start r .args .«record» .now) (r .read .ensures .0) _ _ (k .if1 .left) (ok .1) {a = worked (status (w .number) (w .place)) (state (copy .0) (copy .1 .0) (progressOf (w .accepted) (w .delta)))}
+    (m .work .ensures)
 
 pub work-run-spec : {M : Type 1} → statement M
 work-run-spec =
