@@ -8,7 +8,7 @@ use Rattle.base.specs.Refusal.{judge, accepted}
 use Rattle.color.specs.Inks.{inkValues}
 use Rattle.eye.specs.Constants.{alphaLum, alphaChroma}
 use Rattle.eye.specs.Eye.{sigmaPx, blurRadius}
-use Rattle.kernel.specs.Kernel.{gaussianBlur}
+use Rattle.blur.specs.Blur.{gaussianBlur}
 use Rattle.bounds.specs.Number.{Number}
 use Rattle.bounds.proofs.Within.{number, numbers}
 use Rattle.inkbounds.proofs.Inks.{inks-within}

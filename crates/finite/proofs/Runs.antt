@@ -13,8 +13,9 @@ use Rattle.tiling.specs.Tiling.{image, tile, tiles}
 use Rattle.search.specs.Shared.{Shared}
 use Rattle.tile.specs.Tile.{State, state, refineTile, noProgress, Covers}
 use Rattle.tile.proofs.Keeps.{Sound}
-use Rattle.walk.specs.Walk.{refined, Walk}
-use Rattle.walk.proofs.Laws.{image-covers}
+use Rattle.phases.specs.Phases.{refined}
+use Rattle.walk.specs.Walk.{Walk}
+use Rattle.phases.proofs.Laws.{image-covers}
 use Rattle.bounds.specs.Bound.{Bounded, AllBounded}
 use Rattle.bounds.proofs.Within.{number, numbers}
 use Rattle.errorbounds.specs.Errors.{cpeExponent, costExponent}

@@ -13,14 +13,15 @@ use Rattle.color.specs.declared.YyCxCz.{YyCxCz}
 use Rattle.color.specs.Inks.{inkValues}
 use Rattle.eye.specs.Constants.{alphaLum, alphaChroma}
 use Rattle.eye.specs.Eye.{sigmaPx}
-use Rattle.kernel.specs.Kernel.{gaussianBlur}
+use Rattle.blur.specs.Blur.{gaussianBlur}
 use Rattle.tiling.specs.declared.Tiling.{Tiling}
 use Rattle.tiling.specs.Tiling.{image, tile, region, tiles}
 use Rattle.cpp.specs.declared.Kernel2D.{Kernel2D}
 use Rattle.cpp.specs.Kernel.{size, kernelAt, lumKernel, chromaKernel}
 use Rattle.search.specs.Shared.{Shared}
 use Rattle.tile.specs.Tile.{State, state, refineTile, noProgress}
-use Rattle.walk.specs.Walk.{walkTry, Walk}
+use Rattle.phases.specs.Phases.{walkTry}
+use Rattle.walk.specs.Walk.{Walk}
 use Rattle.error.specs.Error.{scene, errorAt}
 use Rattle.bounds.specs.Number.{Number, Numbers}
 use Rattle.walkbounds.specs.Costs.{Weighed, comesTo}

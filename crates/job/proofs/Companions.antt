@@ -14,7 +14,8 @@ use Rattle.base.specs.Refusal.{accepted, isAccepted}
 use Rattle.tiling.specs.Tiling.{tiles, inPhase}
 use Rattle.input.proofs.Validity.{refine-valid-iff}
 use Rattle.prepare.specs.Prepare.{tilingOf, errorOf, sharedOf, runOne}
-use Rattle.walk.specs.Walk.{Refined, Walk, walkTile, walkTry, walkTiles, walkPhase, walkStart, walkAt}
+use Rattle.phases.specs.Phases.{Refined, walkTile, walkTry, walkTiles}
+use Rattle.walk.specs.Walk.{Walk, walkPhase, walkStart, walkAt}
 use Rattle.walk.proofs.Passes.{walkAt-add, walkAt-ended}
 use Rattle.refine.specs.Refine.{refineAccepted, refineOf}
 use Rattle.refine.proofs.Promises.{run-ends}

@@ -18,7 +18,8 @@ use Rattle.tiling.proofs.TilingLaws.{one-phase, tiles-area}
 use Rattle.search.specs.Shared.{Shared}
 use Rattle.tile.specs.Tile.{state, refineTile, noProgress}
 use Rattle.tile.proofs.Keeps.{tile-count, unpinned-le}
-use Rattle.walk.specs.Walk.{Refined, Walk, walkTile, walkTry, walkTiles, walkPhase}
+use Rattle.phases.specs.Phases.{Refined, walkTile, walkTry, walkTiles}
+use Rattle.walk.specs.Walk.{Walk, walkPhase}
 use Rattle.job.specs.Copy.{Pixels, refinedCopy}
 use Rattle.job.specs.Companions.{sumTo}
 use Rattle.job.proofs.Merge.{Half, brought, home, merge, pixelsNow}

@@ -28,9 +28,10 @@ use Rattle.prepare.proofs.Laws.{image-area}
 use Rattle.prepare.specs.Prepare.{tilingOf, inksOf, cppOf, cpeOf, errorOf, sharedOf, runOne}
 use Rattle.tile.specs.Tile.{State}
 use Rattle.tile.proofs.Keeps.{Sound}
-use Rattle.walk.specs.Walk.{Refined, Walk, walkTile, walkPhase, walkStart, walkAt}
+use Rattle.phases.specs.Phases.{Refined, walkTile}
+use Rattle.walk.specs.Walk.{Walk, walkPhase, walkStart, walkAt}
 use Rattle.walk.specs.Promises.{LastZero}
-use Rattle.walk.proofs.Laws.{SoundImage, walkTile-sound}
+use Rattle.phases.proofs.Laws.{SoundImage, walkTile-sound}
 use Rattle.walk.proofs.Ends.{walk-sound}
 use Rattle.refine.proofs.Promises.{run-settled}
 use Rattle.job.specs.declared.JobRecord.{JobRecord}

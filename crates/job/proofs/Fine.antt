@@ -11,7 +11,8 @@ use Rattle.tiling.specs.Tiling.{tiles, inPhase}
 use Rattle.error.specs.Error.{initialError}
 use Rattle.search.specs.Shared.{Shared}
 use Rattle.prepare.specs.Prepare.{errorOf, sharedOf, runOne}
-use Rattle.walk.specs.Walk.{Refined, Walk, walkTile, walkTry, walkTiles, walkPhase, walkStart, walkAt}
+use Rattle.phases.specs.Phases.{Refined, walkTile, walkTry, walkTiles}
+use Rattle.walk.specs.Walk.{Walk, walkPhase, walkStart, walkAt}
 use Rattle.job.specs.Open.{Opening}
 use Rattle.job.specs.Claim.{phases}
 

@@ -17,7 +17,7 @@ use Rattle.tiling.proofs.TilingLaws.{region-within, regions-apart}
 use Rattle.search.specs.Shared.{Shared}
 use Rattle.tile.specs.Tile.{State, state, refineTile, noProgress}
 use Rattle.tile.proofs.Reach.{Whole, tile-on-copy}
-use Rattle.walk.specs.Walk.{Refined, walkTile, walkTry, walkTiles}
+use Rattle.phases.specs.Phases.{Refined, walkTile, walkTry, walkTiles}
 use Rattle.job.specs.Copy.{Pixels, pixels, copyOf, refinedCopy, writtenBack}
 
 -- ---- a copy and the image

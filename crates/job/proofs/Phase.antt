@@ -20,7 +20,8 @@ use Rattle.tiling.specs.declared.Tiling.{Tiling}
 use Rattle.tiling.specs.Tiling.{tiles, inPhase}
 use Rattle.search.specs.Shared.{Shared, shared}
 use Rattle.tile.specs.Tile.{State}
-use Rattle.walk.specs.Walk.{Refined, Walk, walkTiles, phaseEnd, walkPhase}
+use Rattle.phases.specs.Phases.{Refined, walkTiles}
+use Rattle.walk.specs.Walk.{Walk, phaseEnd, walkPhase}
 use Rattle.job.specs.declared.JobRecord.{JobRecord}
 use Rattle.job.specs.declared.Plan.{Plan}
 use Rattle.job.specs.Record.{jobShared, stored, inState}

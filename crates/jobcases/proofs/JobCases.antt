@@ -15,7 +15,8 @@ use Rattle.color.specs.YyCxCz.{yycxcz}
 use Rattle.eye.specs.Ceil.{ceil}
 use Rattle.eye.specs.Exp.{series, squared, expOf}
 use Rattle.eye.specs.Eye.{toDegrees, sigmaPx, blurRadius, kernelRadius, isFinitePositive, eyeTests}
-use Rattle.kernel.specs.Kernel.{gaussianAt, gaussianLine, sumOf, blurAt, blurOf, gaussianBlur, rowSum, correlationAt, autocorrelation, kernelOf, eyeKernels}
+use Rattle.blur.specs.Blur.{gaussianAt, gaussianLine, sumOf, blurAt, blurOf, gaussianBlur}
+use Rattle.kernel.specs.Kernel.{rowSum, correlationAt, autocorrelation, kernelOf, eyeKernels}
 use Rattle.tiling.specs.Tiling.{image, margin, side, columns, rows, tiles, tileX, tileY, inPhase, tile, region}
 use Rattle.pins.specs.Pins.{pinnedAt}
 use Rattle.cpp.specs.Kernel.{kernelAt}

@@ -14,11 +14,9 @@ use Rattle.eye.specs.declared.DbsParams.{DbsParams}
 use Rattle.eye.specs.Constants.{alphaLum, alphaChroma}
 use Rattle.eye.specs.Eye.{sigmaPx, blurRadius, kernelRadius, KernelRadius, eyeTests}
 use Rattle.eye.proofs.EyeLaws.{radii-fit, kernel-fits}
-use Rattle.kernel.specs.Kernel.{kernelSide, values, autocorrelation, kernelOf, lumBase, chromaBase, eyeKernels}
+use Rattle.blur.specs.Blur.{kernelSide, values}
+use Rattle.kernel.specs.Kernel.{autocorrelation, kernelOf, lumBase, chromaBase, eyeKernels}
 use Rattle.kernel.proofs.OverwriteLaws.{overwrite-in, overwrite-before}
-
-pub blur-size : (r : ℕ) → r ≤ 16 → values r ≤ 1089
-blur-size r h = let s : kernelSide r ≤ 33 = omega arith in product-le (kernelSide r) (kernelSide r) 33 33 s s
 
 pub kernel-size : (r : ℕ) → r ≤ 16 → values (2 * r) ≤ 4225
 kernel-size r h = let s : kernelSide (2 * r) ≤ 65 = omega arith in product-le (kernelSide (2 * r)) (kernelSide (2 * r)) 65 65 s s

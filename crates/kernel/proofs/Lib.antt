@@ -1,4 +1,3 @@
-mod SquareLaws
 pub mod OverlapLaws
 mod OverwriteLaws
 pub mod KernelLaws

@@ -3,9 +3,10 @@
 use Prim.Native.Nat.{ℕ, _+_, _-_, _*_, _≤_, _<_}
 use native.Mathlib.Omega.{arith}
 use Rattle.base.proofs.Bounds.{index-lt}
-use Rattle.kernel.specs.Kernel.{kernelSide, overlapFrom, overlapTo}
+use Rattle.blur.specs.Blur.{kernelSide}
+use Rattle.kernel.specs.Kernel.{overlapFrom, overlapTo}
 use Rattle.kernel.specs.Ready.{RowMeets}
-use Rattle.kernel.proofs.KernelLaws.{blur-size}
+use Rattle.blur.proofs.BlurLaws.{blur-size}
 
 pub overlap-some : (r o : ℕ) → o < kernelSide (2 * r) → overlapFrom r o ≤ overlapTo r o
 overlap-some r o h = omega arith

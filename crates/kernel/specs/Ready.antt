@@ -1,7 +1,8 @@
 -- What the inner functions of `autocorrelate` require: a displacement that the blur has, and a row of it that meets itself there.
 use Prim.Native.Nat.{ℕ, _*_, _≤_, _<_}
 use mathlib.Core.Path.{_≡_}
-use Rattle.kernel.specs.Kernel.{kernelSide, values, overlapFrom, overlapTo}
+use Rattle.blur.specs.Blur.{kernelSide, values}
+use Rattle.kernel.specs.Kernel.{overlapFrom, overlapTo}
 
 pub record Offset (len r i j : ℕ) : Type 0 where
   pub radius : r ≤ 16

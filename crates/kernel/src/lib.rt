@@ -1,5 +1,4 @@
-// The eye-model blurs and their autocorrelation kernels (dbs.rs: Kernel2D, gaussian_blur,
-// autocorrelate). A kernel of radius r is a square table of (2r + 1) x (2r + 1) values, row by row.
+// The autocorrelation kernels of the eye-model blurs (dbs.rs: Kernel2D, autocorrelate). A kernel of radius r is a square table of (2r + 1) x (2r + 1) values, row by row.
 use base::CPP_CHROMA;
 use eye::ALPHA_CHROMA;
 use eye::ALPHA_LUM;
@@ -11,62 +10,9 @@ ghost use Rattle.base.specs.Limits.{cppChroma, cppLength};
 ghost use Rattle.base.specs.Loop.{overwrite};
 ghost use Rattle.base.specs.Refusal.{judge, accepted};
 ghost use Rattle.eye.specs.Eye.{Narrow, blurRadius, eyeTests};
-ghost use Rattle.kernel.specs.Kernel.{kernelSide, values, gaussianLine, sumOf, blurOf, gaussianBlur, overlapFrom, overlapTo, rowSum, correlationAt, autocorrelation, kernelOf, eyeKernels};
+ghost use Rattle.blur.specs.Blur.{kernelSide, values, gaussianLine, sumOf, blurOf, gaussianBlur};
+ghost use Rattle.kernel.specs.Kernel.{overlapFrom, overlapTo, rowSum, correlationAt, autocorrelation, kernelOf, eyeKernels};
 ghost use Rattle.kernel.specs.Ready.{Offset, RowMeets};
-
-// The Gaussian at the distances -r to r, not yet normalised.
-fn gaussian_line(sigma: f64, r: usize, g: &mut [f64])
-    requires { ⌜ (r ≤ 16) × (length (now g) ≡ kernelSide r) ⌝ }
-    ensures { λ _. ⌜ now (g .exit) ≡ gaussianLine sigma r ⌝ }
-{
-    for i in 0..g.len() {
-        let d = i as f64 - r as f64;
-        g[i] = eye::exp(-(d * d) / (2.0 * sigma * sigma));
-    }
-}
-
-// From 0.0, left to right.
-fn sum(g: &[f64]) -> f64
-    ensures { λ s. ⌜ s ≡ sumOf (now (g .entry)) ⌝ }
-{
-    let mut total = 0.0;
-    for i in 0..g.len() {
-        total += g[i];
-    }
-    total
-}
-
-// The products of a row's and a column's value of g, normalised to unit sum.
-fn blur_from(g: &[f64], p: &mut [f64])
-    requires { ⌜ (0 < length (now g)) × (length (now g) ≤ 33) × (length (now p) ≡ length (now g) * length (now g)) ⌝ }
-    ensures { λ _. ⌜ now (p .exit) ≡ blurOf (now (g .entry)) ⌝ }
-{
-    let size = g.len();
-    let sum = sum(g);
-    for i in 0..p.len() {
-        p[i] = g[i / size] * g[i % size] / (sum * sum);
-    }
-}
-
-// The blur of a given radius; g is room for the line.
-fn blur_into(sigma: f64, r: usize, g: &mut [f64], p: &mut [f64])
-    requires { ⌜ (r ≤ 16) × (length (now g) ≡ kernelSide r) × (length (now p) ≡ values r) ⌝ }
-    ensures { λ _. ⌜ now (p .exit) ≡ blurOf (gaussianLine sigma r) ⌝ }
-{
-    gaussian_line(sigma, r, g);
-    blur_from(g, p);
-}
-
-// Normalised (unit-sum) sampled Gaussian, truncated at its blur radius.
-pub fn gaussian_blur(sigma: f64, p: &mut [f64])
-    requires { ⌜ Narrow sigma × (length (now p) ≡ values (blurRadius sigma)) ⌝ }
-    ensures { λ _. ⌜ now (p .exit) ≡ gaussianBlur sigma ⌝ }
-{
-    let r = eye::blur_radius(sigma);
-    let size = 2 * r + 1;
-    let mut g = [0.0f64; 33];
-    blur_into(sigma, r, &mut g[..size], p);
-}
 
 // Displaced by d = o - 2r, a blur of radius r overlaps itself in the columns (or rows) u for which
 // u + d is one too. The first of them ..
@@ -140,7 +86,7 @@ fn kernel_into(sigma: f64, r: usize, p: &mut [f64], c: &mut [f64])
     requires { ⌜ (r ≤ 16) × (length (now p) ≡ values r) × (length (now c) ≡ values (2 * r)) ⌝ }
     ensures { λ _. ⌜ now (c .exit) ≡ kernelOf sigma ⌝ }
 {
-    gaussian_blur(sigma, p);
+    blur::gaussian_blur(sigma, p);
     autocorrelate(p, r, c);
 }
 

@@ -20,7 +20,7 @@ use Rattle.bounds.specs.Bound.{Ranged, Least, Bounded, AllBounded}
 use Rattle.bounds.proofs.Ranges.{neg-ranged, mul-ranged, mul-least, div-ranged, add-ranged, add-least, ranged-within}
 use Rattle.bounds.proofs.Sums.{table-within}
 use Rattle.eye.specs.Eye.{blurRadius}
-use Rattle.kernel.specs.Kernel.{kernelSide, gaussianAt, gaussianLine, sumOf, blurAt, blurOf, gaussianBlur}
+use Rattle.blur.specs.Blur.{kernelSide, gaussianAt, gaussianLine, sumOf, blurAt, blurOf, gaussianBlur}
 use Rattle.kernelbounds.specs.Kernels.{Fitting}
 use Rattle.kernelbounds.proofs.Exp.{exp-ranged, exp-least}
 use Rattle.kernelbounds.proofs.Width.{spread}

@@ -16,7 +16,8 @@ use Rattle.eye.specs.declared.DbsParams.{DbsParams}
 use Rattle.eye.specs.Constants.{alphaLum, alphaChroma}
 use Rattle.eye.specs.Eye.{sigmaPx, blurRadius, kernelRadius, eyeTests}
 use Rattle.eye.proofs.EyeLaws.{narrow-both, wide-both, eye-passes, radii-fit}
-use Rattle.kernel.specs.Kernel.{kernelSide, values, overlapFrom, overlapTo, rowSum, correlationAt, autocorrelation, gaussianBlur, kernelOf, lumBase, chromaBase, eyeKernels}
+use Rattle.blur.specs.Blur.{kernelSide, values, gaussianBlur}
+use Rattle.kernel.specs.Kernel.{overlapFrom, overlapTo, rowSum, correlationAt, autocorrelation, kernelOf, lumBase, chromaBase, eyeKernels}
 use Rattle.kernel.specs.Ready.{RowMeets}
 use Rattle.kernel.proofs.OverlapLaws.{term}
 use Rattle.kernel.proofs.KernelLaws.{length-kernel, lum-value, chroma-value}

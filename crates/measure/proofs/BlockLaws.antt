@@ -12,7 +12,7 @@ use Rattle.base.specs.F64.{_+f_, _*f_, f0}
 use Rattle.base.proofs.Bounds.{index-lt, product-le}
 use Rattle.base.proofs.LoopLaws.{upTo-none, fromTo-rel, fromTo-same, upTo-same, upTo-join}
 use Rattle.base.proofs.TableLaws.{length-table, getD-table, table-same}
-use Rattle.kernel.specs.Kernel.{entry}
+use Rattle.blur.specs.Blur.{entry}
 use Rattle.correlate.specs.Correlate.{at}
 use Rattle.error.specs.Error.{Scene}
 use Rattle.block.specs.declared.Block.{Block}

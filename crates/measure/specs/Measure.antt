@@ -8,7 +8,7 @@ use lib.Ieee.{Float}
 use Rattle.base.specs.Loop.{upTo, fromTo}
 use Rattle.base.specs.F64.{_+f_, _*f_, f0}
 use Rattle.color.specs.Inks.{channel}
-use Rattle.kernel.specs.Kernel.{entry}
+use Rattle.blur.specs.Blur.{entry}
 use Rattle.error.specs.Error.{Scene, scene, errorAt, SceneFits}
 use Rattle.measure.specs.declared.Frame.{Frame}
 

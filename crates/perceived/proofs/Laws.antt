@@ -18,7 +18,7 @@ use Rattle.eye.specs.declared.Eye.{Eye}
 use Rattle.eye.specs.Constants.{alphaLum, alphaChroma}
 use Rattle.eye.specs.Eye.{sigmaPx, blurRadius, Narrow, eyeTests}
 use Rattle.eye.proofs.EyeLaws.{narrow-both}
-use Rattle.kernel.specs.Kernel.{values, gaussianLine, blurOf, gaussianBlur}
+use Rattle.blur.specs.Blur.{values, gaussianLine, blurOf, gaussianBlur}
 use Rattle.error.specs.Error.{scene, SceneFits}
 use Rattle.input.specs.Input.{Input, input, pixelCount, inputTests, imageTests, inkTests, checkedOf}
 use Rattle.input.specs.Valid.{Valid}

@@ -11,7 +11,7 @@ use Rattle.base.specs.Refusal.{judge, status, accepted, isAccepted}
 use Rattle.color.specs.Inks.{inkValues}
 use Rattle.eye.specs.Constants.{alphaLum, alphaChroma}
 use Rattle.eye.specs.Eye.{sigmaPx, blurRadius}
-use Rattle.kernel.specs.Kernel.{values, gaussianBlur}
+use Rattle.blur.specs.Blur.{values, gaussianBlur}
 use Rattle.input.specs.Input.{Input, inputTests}
 use Rattle.measure.specs.Measure.{perceivedOf}
 use Rattle.perceived.specs.declared.Measured.{Measured}

@@ -11,7 +11,7 @@ ghost use lib.ListN.{length};
 ghost use Rattle.base.specs.Refusal.{judge, accepted};
 ghost use Rattle.color.specs.Lut.{srgbToLinear};
 ghost use Rattle.eye.specs.Eye.{sigmaPx, blurRadius, Narrow};
-ghost use Rattle.kernel.specs.Kernel.{values};
+ghost use Rattle.blur.specs.Blur.{values};
 ghost use Rattle.input.specs.Input.{input, inputTests};
 ghost use Rattle.perceived.specs.Perceived.{Blur, ReadyToMeasure, measuredError, measureOf};
 
@@ -40,7 +40,7 @@ fn eye_blur(alpha: f64, params: DbsParams, blur: &mut [f64]) -> usize
     ensures { λ r. ⌜ Blur (sigmaPx alpha params) (now (blur .exit)) r ⌝ }
 {
     let sigma = eye::eye_sigma_px(alpha, params);
-    kernel::gaussian_blur(sigma, blur);
+    blur::gaussian_blur(sigma, blur);
     eye::blur_radius(sigma)
 }
 

@@ -40,7 +40,8 @@ use Rattle.search.specs.Shared.{Shared, shared, inkAt, indexAt}
 use Rattle.search.specs.Search.{centreOf, valueOf, besideOf, centres, gaps, noMove, siteAt, toggles, eligible, partnerOf, swapWith, trySwap, swaps, evaluateOf}
 use Rattle.moves.specs.Moves.{swapKernels, movedCpe}
 use Rattle.tile.specs.Tile.{State, state, noProgress, applied, visitOf, refineRow, refineTile}
-use Rattle.walk.specs.Walk.{Refined, walkTile, walkTry, walkTiles, Walk, phaseEnd, walkPhase, walkStart, walkAt}
+use Rattle.phases.specs.Phases.{Refined, walkTile, walkTry, walkTiles}
+use Rattle.walk.specs.Walk.{Walk, phaseEnd, walkPhase, walkStart, walkAt}
 use Rattle.error.specs.Error.{Scene, errorAt}
 use Rattle.field.specs.Field.{correlateTerm, correlateRow, correlateAt, channelKernel, fieldAt, fieldValue, fieldOf}
 use Rattle.input.specs.Input.{Input, inkCount, inputTests}

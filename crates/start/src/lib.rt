@@ -5,7 +5,6 @@ use eye::DbsParams;
 use eye::Eye;
 use job::JobRecord;
 use job::Plan;
-use job::TileState;
 use tiling::Tiling;
 use words::Answer;
 ghost use mathlib.Core.Path.{_≡_};
@@ -15,8 +14,6 @@ ghost use Rattle.base.specs.Refusal.{judge};
 ghost use Rattle.tiling.specs.Tiling.{tiles};
 ghost use Rattle.input.specs.Input.{input, openTests};
 ghost use Rattle.prepare.specs.Prepare.{tilingOf};
-ghost use Rattle.job.specs.declared.TileState.the-variants.{Waiting};
-ghost use Rattle.job.specs.Record.{byteOf};
 ghost use Rattle.job.specs.Open.{opening, opened, openOf};
 
 // Refusals 1 to 11, and both kernel radii where none applies.
@@ -72,15 +69,6 @@ fn check(
     }
 }
 
-// Every tile waiting.
-fn clear_states(tile_states: &mut [u8])
-    ensures { λ _. ⌜ now («tile_states» .exit) ≡ replicate (length (now («tile_states» .entry))) (byteOf Waiting) ⌝ }
-{
-    for i in 0..tile_states.len() {
-        tile_states[i] = states::state_byte(TileState::Waiting);
-    }
-}
-
 fn clear_deltas(deltas: &mut [f64])
     ensures { λ _. ⌜ now (deltas .exit) ≡ replicate (length (now (deltas .entry))) f0 ⌝ }
 {
@@ -132,7 +120,7 @@ pub fn open(
         lum: eye.lum_radius,
         chroma: eye.chroma_radius,
     };
-    clear_states(tile_states);
+    states::clear(tile_states);
     clear_deltas(deltas);
     let error = prepare::prepare(
         pixels,

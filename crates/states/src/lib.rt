@@ -1,6 +1,8 @@
 // The states of tiles as bytes of `tile_states`.
 use job::TileState;
 ghost use mathlib.Core.Path.{_≡_};
+ghost use lib.ListN.{length, replicate};
+ghost use Rattle.job.specs.declared.TileState.the-variants.{Waiting};
 ghost use Rattle.job.specs.Record.{byteOf, stateOf, inState};
 
 // The byte that a call writes of a tile.
@@ -32,4 +34,13 @@ pub fn is_in(byte: u8, wanted: TileState) -> bool
     ensures { λ b. ⌜ b ≡ inState wanted byte ⌝ }
 {
     state_byte(tile_state(byte)) == state_byte(wanted)
+}
+
+// Every tile waiting.
+pub fn clear(tile_states: &mut [u8])
+    ensures { λ _. ⌜ now («tile_states» .exit) ≡ replicate (length (now («tile_states» .entry))) (byteOf Waiting) ⌝ }
+{
+    for i in 0..tile_states.len() {
+        tile_states[i] = state_byte(TileState::Waiting);
+    }
 }

@@ -13,9 +13,10 @@ use borrow.Author.Tests.{ne-eqb, eqb-true, eqb-false, leb-true, leb-false}
 use Rattle.base.proofs.LoopLaws.{upTo-ind}
 use Rattle.tiling.specs.Tiling.{image}
 use Rattle.search.specs.Shared.{Shared, Ready}
-use Rattle.walk.specs.Walk.{Refined, walkTiles, Walk, passEnd, walkPhase, walkStart, walkAt, walkEnd}
+use Rattle.phases.specs.Phases.{Refined, walkTiles}
+use Rattle.walk.specs.Walk.{Walk, passEnd, walkPhase, walkStart, walkAt, walkEnd}
 use Rattle.walk.specs.Promises.{LastZero, Settled}
-use Rattle.walk.proofs.Laws.{SoundImage, walkTiles-sound}
+use Rattle.phases.proofs.Laws.{SoundImage, walkTiles-sound}
 use Rattle.walk.proofs.Passes.{phase-ended}
 
 -- ---- where a walk is after n phases

@@ -14,9 +14,10 @@ use Rattle.base.proofs.TableLaws.{overwrite-none, overwrite-more}
 use Rattle.tiling.specs.Tiling.{Limits, image, tiles}
 use Rattle.tiling.proofs.Sums.{upTo-add}
 use Rattle.search.specs.Shared.{Shared, Ready}
-use Rattle.walk.specs.declared.Run.{Run}
-use Rattle.walk.specs.Walk.{Refined, refined, walkTiles, passOf, Walk, passEnd, walkPhase, walkStart, walkAt, walkEnd, outcomeOf, Refines}
-use Rattle.walk.proofs.Laws.{SoundImage, Between, between-none, between-more, walkTiles-sound, walkTiles-few}
+use Rattle.phases.specs.declared.Run.{Run}
+use Rattle.phases.specs.Phases.{Refined, refined, walkTiles, passOf}
+use Rattle.walk.specs.Walk.{Walk, passEnd, walkPhase, walkStart, walkAt, walkEnd, outcomeOf, Refines}
+use Rattle.phases.proofs.Laws.{SoundImage, Between, between-none, between-more, walkTiles-sound, walkTiles-few}
 
 -- ---- phases
 

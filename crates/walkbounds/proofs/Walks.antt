@@ -16,8 +16,9 @@ use Rattle.tiling.specs.Tiling.{Limits, image, side, tileX, tileY, tile, tiles,
 use Rattle.tiling.proofs.Sizes.{sizes}
 use Rattle.search.specs.Shared.{Shared}
 use Rattle.tile.specs.Tile.{State, state, refineTile, noProgress}
-use Rattle.walk.specs.Walk.{Refined, refined, joined, walkTile, walkTry, walkTiles, Walk, passEnd, walkPhase, walkStart, walkAt}
-use Rattle.walk.proofs.Laws.{SoundImage, image-covers, walkTile-sound}
+use Rattle.phases.specs.Phases.{Refined, refined, joined, walkTile, walkTry, walkTiles}
+use Rattle.walk.specs.Walk.{Walk, passEnd, walkPhase, walkStart, walkAt}
+use Rattle.phases.proofs.Laws.{SoundImage, image-covers, walkTile-sound}
 use Rattle.walk.proofs.Passes.{phase-ended}
 use Rattle.walk.proofs.Ends.{Going, Over, walk-stage}
 use Rattle.bounds.specs.Bound.{Bounded, AllBounded, countLimit}

@@ -6,8 +6,9 @@ use borrow.Author.Needs.{needs}
 use lib.ListN.{length, length-set}
 use lib.Ieee.{nan}
 use Rattle.base.proofs.TableLaws.{filled, fill-none, fill-turn, fill-done}
-use Rattle.kernel.specs.Kernel.{kernelSide, values, correlationAt, autocorrelation}
-use Rattle.kernel.proofs.SquareLaws.{in-square}
+use Rattle.blur.specs.Blur.{kernelSide, values}
+use Rattle.kernel.specs.Kernel.{correlationAt, autocorrelation}
+use Rattle.blur.proofs.SquareLaws.{in-square}
 use Rattle.kernel.proofs.autocorrelate.Statement.{statement}
 use Rattle.kernel.proofs.autocorrelate.Tie as tie
 

@@ -11,7 +11,8 @@ use lib.Ieee.{Float}
 use Rattle.base.specs.Loop.{fromTo}
 use Rattle.base.specs.F64.{_+f_, _*f_}
 use Rattle.base.proofs.LoopLaws.{fromTo-none, fromTo-more}
-use Rattle.kernel.specs.Kernel.{entry, overlapFrom, overlapTo, rowSum}
+use Rattle.blur.specs.Blur.{entry}
+use Rattle.kernel.specs.Kernel.{overlapFrom, overlapTo, rowSum}
 use Rattle.kernel.proofs.OverlapLaws.{overlap-some, Term, term}
 use Rattle.kernel.proofs.correlate_row.Statement.{statement}
 use Rattle.kernel.proofs.correlate_row.Tie as tie

@@ -1,7 +1,8 @@
 -- `kernel_into` meets its contract: the two calls are the definition. Assumes nothing.
 use mathlib.Core.Path.{ap, _∙_}
 use borrow.Author.Needs.{needs}
-use Rattle.kernel.specs.Kernel.{gaussianBlur, autocorrelation, kernelOf}
+use Rattle.blur.specs.Blur.{gaussianBlur}
+use Rattle.kernel.specs.Kernel.{autocorrelation, kernelOf}
 use Rattle.kernel.proofs.kernel_into.Statement.{statement}
 use Rattle.kernel.proofs.kernel_into.Tie as tie
 

@@ -6,9 +6,11 @@ use native.Mathlib.Omega.{arith}
 use borrow.Author.Needs.{needs}
 use borrow.Rule.Slice.PartMut.{putMid}
 use lib.Seq.{length-take-le}
-use Rattle.kernel.specs.Kernel.{values, kernelOf}
+use Rattle.blur.specs.Blur.{values}
+use Rattle.kernel.specs.Kernel.{kernelOf}
 use Rattle.kernel.proofs.OverwriteLaws.{part-length, part-overwritten}
-use Rattle.kernel.proofs.KernelLaws.{blur-size, kernel-size, length-kernel}
+use Rattle.blur.proofs.BlurLaws.{blur-size}
+use Rattle.kernel.proofs.KernelLaws.{kernel-size, length-kernel}
 use Rattle.kernel.proofs.place_kernel.Statement.{statement}
 use Rattle.kernel.proofs.place_kernel.Tie as tie
 

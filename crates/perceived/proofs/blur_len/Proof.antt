@@ -3,8 +3,8 @@ use mathlib.Core.Path.{ap, _∙_}
 use native.Mathlib.Omega.{arith}
 use borrow.Author.Needs.{needs}
 use Rattle.eye.specs.Eye.{blurRadius}
-use Rattle.kernel.specs.Kernel.{values}
-use Rattle.kernel.proofs.KernelLaws.{blur-size}
+use Rattle.blur.specs.Blur.{values}
+use Rattle.blur.proofs.BlurLaws.{blur-size}
 use Rattle.perceived.proofs.blur_len.Statement.{statement}
 use Rattle.perceived.proofs.blur_len.Tie as tie
 

@@ -2,7 +2,7 @@
 use mathlib.Core.Path.{ap, _∙_}
 use borrow.Author.Needs.{needs}
 use Rattle.eye.specs.Eye.{blurRadius}
-use Rattle.kernel.specs.Kernel.{gaussianBlur}
+use Rattle.blur.specs.Blur.{gaussianBlur}
 use Rattle.perceived.proofs.eye_blur.Statement.{statement}
 use Rattle.perceived.proofs.eye_blur.Tie as tie
 

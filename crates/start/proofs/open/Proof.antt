@@ -29,8 +29,8 @@ returns c =
     ap₂ (λ s r. opened s r (o .cpe) (o .cpp) (o .states) (o .deltas) (o .inks)) (c .refused .ensures .0) (c .refused .ensures .1)
     ∙ open-answers o .kept _ (c .before .before .before .before .check .ensures .0) (c .before .if1 .taken)
 
-clear-states-requires : tie.Need-clear-states-requires
-clear-states-requires c κs = search needs
+clear-requires : tie.Need-clear-requires
+clear-requires c κs = search needs
 
 clear-deltas-requires : tie.Need-clear-deltas-requires
 clear-deltas-requires c κs = search needs
@@ -69,13 +69,13 @@ returns-2 c =
     let at-prepare = earlier-2 .before in
     let earlier-3 = at-prepare .before .before .before .before .before in
     let at-clear-deltas = earlier-3 .before in
-    let at-clear-states = at-clear-deltas .before .before .before .before in
-    let at-if1 = at-clear-states .before .before in
+    let at-clear = at-clear-deltas .before .before .before .before in
+    let at-if1 = at-clear .before .before in
     let at-check = at-if1 .before .before .before in
     let earlier-4 = at-check .before .before .before .before .before in
     let earlier-5 = earlier-4 .before .before .before .before .before in
     let earlier = earlier-5 .before in
-    opens-as (O (earlier)) (at-check .check .result) (at-check .check .ensures .0) (at-check .check .ensures .1) (at-if1 .if1 .left) _ _ _ _ _ _ (at-prepare .prepare .ensures) (at-clear-states .clear-states .ensures) (at-clear-deltas .clear-deltas .ensures)
+    opens-as (O (earlier)) (at-check .check .result) (at-check .check .ensures .0) (at-check .check .ensures .1) (at-if1 .if1 .left) _ _ _ _ _ _ (at-prepare .prepare .ensures) (at-clear .clear .ensures) (at-clear-deltas .clear-deltas .ensures)
 
 pub open-spec : {M : Type 1} → statement M
 open-spec =
@@ -84,7 +84,7 @@ open-spec =
     check-requires
     refused-requires
     returns
-    clear-states-requires
+    clear-requires
     clear-deltas-requires
     prepare-requires
     same-length

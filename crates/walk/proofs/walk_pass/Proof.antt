@@ -3,7 +3,7 @@ use mathlib.Core.Path.{refl, _∙_}
 use native.Mathlib.Omega.{arith}
 use Rattle.tiling.proofs.Sizes.{sizes}
 use Rattle.tile.proofs.Walked.{ready-again}
-use Rattle.walk.proofs.Laws.{between-none}
+use Rattle.phases.proofs.Laws.{between-none}
 use Rattle.walk.proofs.Passes.{run0, phase-more}
 use borrow.Author.Needs.{needs}
 use Rattle.walk.proofs.walk_pass.Statement.{statement}

@@ -1,0 +1,2 @@
+pub mod SquareLaws
+pub mod BlurLaws
