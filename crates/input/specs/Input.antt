@@ -36,14 +36,24 @@ inkCount I = length (I .palette) / 3
 
 -- ---- rows 1 to 9: an image, its halftone and the eye
 
+-- row 1: 'w or h outside its limit'
+abbrev pub sizeTest : ℕ → ℕ → Test
+sizeTest w h = test (not (sizeFits w h)) 1 0
+
+-- row 2, of the picture, for an image of n pixels: 'pixels not 3n'
+abbrev pub pictureTest : ℕ → ℕ → Test
+pictureTest n pixels = test (not (eqb pixels (3 * n))) 2 0
+
+-- rows 3 and 4, of the halftone, for an image of n pixels: the lengths of the indices and the mask
+abbrev pub halftoneTests : ℕ → ℕ → ℕ → List Test
+halftoneTests n indices pinned =
+    test (not (eqb indices n)) 3 0  -- 'indices not n'
+    ∷ test (not (maskFits pinned n)) 4 0  -- 'mask neither 0 nor n'
+    ∷ []
+
 -- rows 1 to 4, of a size and the lengths of the pixels, the indices and the mask
 unfoldable pub imageTests : ℕ → ℕ → ℕ → ℕ → ℕ → List Test
-imageTests w h pixels indices pinned =
-    test (not (sizeFits w h)) 1 0  -- 'w or h outside its limit'
-    ∷ test (not (eqb pixels (3 * (h * w)))) 2 0  -- 'pixels not 3n'
-    ∷ test (not (eqb indices (h * w))) 3 0  -- 'indices not n'
-    ∷ test (not (maskFits pinned (h * w))) 4 0  -- 'mask neither 0 nor n'
-    ∷ []
+imageTests w h pixels indices pinned = sizeTest w h ∷ pictureTest (h * w) pixels ∷ halftoneTests (h * w) indices pinned
 
 -- rows 5 and 6, of the palette's length and the indices: pinned pixels have an ink too
 unfoldable pub inkTests : ℕ → List ℕ → List Test

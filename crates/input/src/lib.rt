@@ -10,7 +10,15 @@ use eye::DbsParams;
 use eye::Eye;
 ghost use mathlib.Core.Path.{_≡_};
 ghost use Rattle.base.specs.Refusal.{judge, accepted, next, judgeFrom};
-ghost use Rattle.input.specs.Input.{imageTests, inkTests, input, checkedOf, lengthTest, runTests, refineRunTests, openRunTests};
+ghost use Rattle.input.specs.Input.{halftoneTests, imageTests, inkTests, input, checkedOf, lengthTest, runTests, refineRunTests, openRunTests};
+
+// Refusals 3 and 4, of an image of n pixels.
+fn check_halftone(s: Status, n: usize, indices_len: usize, pinned_len: usize) -> Status
+    ensures { λ r. ⌜ r ≡ judgeFrom s (halftoneTests n «indices_len» «pinned_len») ⌝ }
+{
+    let s1 = base::next(s, indices_len != n, 3, 0);
+    base::next(s1, !fits::is_mask(pinned_len, n), 4, 0)
+}
 
 // Refusals 1 to 4.
 fn check_image(
@@ -29,8 +37,7 @@ fn check_image(
     }
     let n = height as usize * width as usize;
     let s2 = base::next(s1, pixels_len != 3 * n, 2, 0);
-    let s3 = base::next(s2, indices_len != n, 3, 0);
-    base::next(s3, !fits::is_mask(pinned_len, n), 4, 0)
+    check_halftone(s2, n, indices_len, pinned_len)
 }
 
 // Refusals 5 and 6.

@@ -1,7 +1,6 @@
 // The opening of a list of job calls: a line of compare/replay.txt is a call of open on parts of buffers, and its answer is
-// written in that file's form. In a line, numbers from 0 count its words.
+// written in that file's form; another line is passed over. In a line, numbers from 0 count its words.
 use base::Status;
-use given::Given;
 
 fn print_opened(
     s: Status,
@@ -24,8 +23,7 @@ fn print_opened(
 
 pub fn open(
     line: &[u8],
-    g: Given,
-    given: &[u8],
+    given: &mut [u8],
     cpe: &mut [f64],
     cpp: &mut [f64],
     counts: &[u32],
@@ -34,6 +32,10 @@ pub fn open(
     deltas: &mut [f64],
     record: &mut [u64],
 ) {
+    if !lines::begins(line, b"open") {
+        return;
+    }
+    let g = given::read_given(line, given);
     let cpe = lines::floats(line, 10, cpe, 0);
     let cpp = lines::floats(line, 11, cpp, 0);
     let inks = lines::floats(line, 13, inks, 0);

@@ -46,18 +46,12 @@ mul-next c = omega (arith, product c)
 next-requires-2 : tie.Need-next-requires-2
 next-requires-2 c κs = search needs
 
-next-requires-3 : tie.Need-next-requires-3
-next-requires-3 c κs = search needs
-
-is-mask-requires : tie.Need-is-mask-requires
-is-mask-requires c κs = search needs
-
-next-requires-4 : tie.Need-next-requires-4
-next-requires-4 c κs = search needs
+check-halftone-requires : tie.Need-check-halftone-requires
+check-halftone-requires c κs = search needs
 
 returns-2 : tie.Need-returns-2
 unfolding imageTests
-returns-2 c = rw (c .next4 .ensures, c .before .is-mask .ensures, c .before .before .next3 .ensures, c .before .before .before .next2 .ensures, first (c .before .before .before .before .before .before))
+returns-2 c = rw (c .check-halftone .ensures, c .before .next2 .ensures, first (c .before .before .before .before))
 
 pub check-image-spec : {M : Type 1} → statement M
 check-image-spec =
@@ -69,7 +63,5 @@ check-image-spec =
     mul-n
     mul-next
     next-requires-2
-    next-requires-3
-    is-mask-requires
-    next-requires-4
+    check-halftone-requires
     returns-2)
