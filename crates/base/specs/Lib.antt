@@ -4,3 +4,4 @@ pub mod Grid
 pub mod Refusal
 pub mod Rows
 pub mod F64
+pub mod Decimal

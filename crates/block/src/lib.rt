@@ -9,7 +9,7 @@ ghost use mathlib.Core.Path.{_≡_};
 ghost use Prim.Native.Nat.{_+_, _-_, _*_, _≤_, min};
 ghost use lib.ListN.{length};
 ghost use Rattle.base.specs.Limits.{maxSide};
-ghost use Rattle.color.specs.Lut.{srgbToLinear};
+ghost use Rattle.light.specs.Lut.{srgbToLinear};
 ghost use Rattle.correlate.specs.Correlate.{Spread};
 ghost use Rattle.error.specs.Error.{scene};
 ghost use Rattle.block.specs.Block.{side, rowTop, columnCount, RowReaches, sumRow, sumRows, BlockFits};

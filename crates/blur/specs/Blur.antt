@@ -6,7 +6,7 @@ use lib.ListN.{length, getD}
 use lib.Ieee.{Float, nan, neg}
 use Rattle.base.specs.Loop.{upTo, table}
 use Rattle.base.specs.F64.{_+f_, _-f_, _*f_, _/f_, wholef, f0, f2}
-use Rattle.eye.specs.Exp.{expOf}
+use Rattle.exp.specs.Exp.{expOf}
 use Rattle.eye.specs.Eye.{blurRadius}
 
 -- how many columns, and rows, a kernel of radius r has; how many values

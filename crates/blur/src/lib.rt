@@ -13,7 +13,7 @@ fn gaussian_line(sigma: f64, r: usize, g: &mut [f64])
 {
     for i in 0..g.len() {
         let d = i as f64 - r as f64;
-        g[i] = eye::exp(-(d * d) / (2.0 * sigma * sigma));
+        g[i] = exp::exp(-(d * d) / (2.0 * sigma * sigma));
     }
 }
 

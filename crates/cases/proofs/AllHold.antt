@@ -3,8 +3,8 @@ use mathlib.Core.Path.{_≡_, refl}
 use lib.Ieee.{ofBits, ofInt, round, neg, add, sub, mul, div, lt}
 use Rattle.base.specs.Loop.{upTo, fromTo, table}
 use Rattle.base.specs.Grid.{width, place, cell, put}
-use Rattle.color.specs.Decimal.{decimal}
-use Rattle.color.specs.Lut.{srgbToLinear, linear}
+use Rattle.base.specs.Decimal.{decimal}
+use Rattle.light.specs.Lut.{srgbToLinear, linear}
 use Rattle.color.specs.YyCxCz.{yycxcz}
 use Rattle.eye.specs.Ceil.{ceil}
 use Rattle.eye.specs.Eye.{blurRadius}

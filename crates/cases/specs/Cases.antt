@@ -10,8 +10,8 @@ use Rattle.base.specs.declared.Rect.{Rect}
 use Rattle.base.specs.Limits.{cppLength}
 use Rattle.base.specs.Loop.{table}
 use Rattle.base.specs.F64.{_-f_, f64, f0, f1, f2}
-use Rattle.color.specs.Decimal.{decimal}
-use Rattle.color.specs.Lut.{linear}
+use Rattle.base.specs.Decimal.{decimal}
+use Rattle.light.specs.Lut.{linear}
 use Rattle.color.specs.YyCxCz.{yycxcz}
 use Rattle.eye.specs.Eye.{blurRadius}
 use Rattle.tiling.specs.declared.Tiling.{Tiling}
@@ -26,7 +26,7 @@ use Rattle.search.specs.declared.Move.the-variants.{Stay, Toggle, Swap}
 use Rattle.color.specs.Values.{lessOf}
 use Rattle.search.specs.Shared.{Shared, shared, inkAt, cpeAt}
 use Rattle.search.specs.Search.{noMove, centres, toggleCost, evaluateOf}
-use Rattle.moves.specs.Moves.{progressOf}
+use Rattle.progress.specs.Progress.{progressOf}
 use Rattle.tile.specs.Tile.{State, state, noProgress, refineTile}
 
 -- a case and its outcome

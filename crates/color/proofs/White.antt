@@ -2,7 +2,7 @@
 use mathlib.Core.Path.{_≡_, refl}
 use lib.Ieee.{ofBits, ofInt, round, add, sub, mul, div}
 use Rattle.base.specs.F64.{f0}
-use Rattle.color.specs.Lut.{srgbToLinear, linear}
+use Rattle.light.specs.Lut.{srgbToLinear, linear}
 use Rattle.color.specs.YyCxCz.{yycxcz}
 
 -- document 01's case 'white's Cx, Cz'

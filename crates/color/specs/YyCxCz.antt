@@ -4,8 +4,8 @@ use Prim.Native.Nat.{ℕ}
 use lib.Ieee.{Float}
 use Rattle.base.specs.F64.{_+f_, _-f_, _*f_, _/f_, wholef}
 use Rattle.color.specs.declared.YyCxCz.{YyCxCz}
-use Rattle.color.specs.Decimal.{decimal}
-use Rattle.color.specs.Lut.{linear}
+use Rattle.base.specs.Decimal.{decimal}
+use Rattle.light.specs.Lut.{linear}
 
 -- a row of SRGB_TO_XYZ, made of its decimals in units of 0.0000001
 pub record MatrixRow : Type 0 where

@@ -9,7 +9,7 @@ use perceived::Measured;
 use work::DbsWorked;
 ghost use mathlib.Core.List.{[]};
 ghost use mathlib.Core.Path.{_≡_};
-ghost use Rattle.moves.specs.Moves.{progressOf};
+ghost use Rattle.progress.specs.Progress.{progressOf};
 ghost use Rattle.input.specs.Input.{input};
 ghost use Rattle.perceived.specs.Perceived.{measureOf};
 ghost use Rattle.refine.specs.Refine.{refinement, refineOf};

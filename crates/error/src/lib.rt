@@ -9,7 +9,7 @@ ghost use Prim.Native.Nat.{ℕ, _*_};
 ghost use lib.ListN.{length};
 ghost use Rattle.base.specs.Loop.{table};
 ghost use Rattle.base.specs.F64.{_+f_, _*f_, f0};
-ghost use Rattle.color.specs.Lut.{srgbToLinear};
+ghost use Rattle.light.specs.Lut.{srgbToLinear};
 ghost use Rattle.color.specs.Inks.{channel};
 ghost use Rattle.error.specs.Error.{scene, errorAt, initialError, SceneFits, PixelFits};
 ghost use Rattle.error.specs.Rows.{RowHolds, errorInRow};

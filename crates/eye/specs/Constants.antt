@@ -33,9 +33,6 @@ pi = f64 0x400921fb54442d18
 abbrev pub f180 : Float
 f180 = f64 0x4066800000000000
 
-abbrev pub f1024 : Float
-f1024 = f64 0x4090000000000000
-
 -- a number and its decimal, digits / 10^places
 pub record Decimal : Type 0 where
   pub value : Float
@@ -55,7 +52,6 @@ decimals =
     ∷ dec cmPerInch 254 2
     ∷ dec pi 314159265358979323846264338327950288 35
     ∷ dec f180 180 0
-    ∷ dec f1024 1024 0
     ∷ dec f0 0 0
     ∷ dec f1 1 0
     ∷ dec f2 2 0
@@ -67,4 +63,4 @@ Right (d ∷ ds) = (d .value ≡ round binary64 false (d .digits) (10 ^ d .place
 
 pub decimals-right : Right decimals
 unfolding Right decimals ofBits round
-decimals-right = (refl, (refl, (refl, (refl, (refl, (refl, (refl, (refl, (refl, (refl, (refl, (refl, tt))))))))))))
+decimals-right = (refl, (refl, (refl, (refl, (refl, (refl, (refl, (refl, (refl, (refl, (refl, tt)))))))))))

@@ -1,4 +1,3 @@
 pub mod Constants
-pub mod Exp
 pub mod Ceil
 pub mod Eye

@@ -1,11 +1,10 @@
-// The eye model of dbs.rs: the exponential, blur widths in pixels, blur radii, and the tests of a
+// The eye model of dbs.rs: blur widths in pixels, blur radii, and the tests of a
 // viewing geometry. Every function is defined on every f64, NaN and infinities included, unless its
 // `requires` says otherwise.
 use base::Status;
 ghost use mathlib.Core.Path.{_≡_};
-ghost use Prim.Native.Nat.{_-_, _≤_};
+ghost use Prim.Native.Nat.{_≤_};
 ghost use Rattle.base.specs.Refusal.{judgeFrom};
-ghost use Rattle.eye.specs.Exp.{series, expOf};
 ghost use Rattle.eye.specs.Eye.{toDegrees, sigmaPx, isFinitePositive, Narrow, blurRadius, eyeTests, withRadii, eyeOf};
 
 // Kolpatzik & Bouman (1992) exponential CSF decay constants, W(f) ∝ exp(-α·f), f in cycles/degree.
@@ -41,28 +40,6 @@ pub struct Eye {
     pub status: Status,
     pub lum_radius: usize,
     pub chroma_radius: usize,
-}
-
-// s of `exp` after the steps 10, 9, .., k.
-fn exp_series(y: f64, k: u32) -> f64
-    ensures { λ r. ⌜ r ≡ series y (11 - k) ⌝ }
-{
-    if k > 10 {
-        1.0
-    } else {
-        1.0 + (y * exp_series(y, k + 1)) / (k as f64)
-    }
-}
-
-// Document 01's exponential.
-pub fn exp(t: f64) -> f64
-    ensures { λ r. ⌜ r ≡ expOf t ⌝ }
-{
-    let mut s = exp_series(t / 1024.0, 1);
-    for _ in 0u32..10 {
-        s = s * s;
-    }
-    s
 }
 
 // A product with the f64 quotient 180 / π.

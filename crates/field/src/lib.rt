@@ -12,7 +12,7 @@ ghost use Prim.Native.Nat.{_*_, _<_, _≤_};
 ghost use lib.ListN.{length};
 ghost use Rattle.base.specs.Limits.{maxSide};
 ghost use Rattle.base.specs.Loop.{table};
-ghost use Rattle.color.specs.Lut.{srgbToLinear};
+ghost use Rattle.light.specs.Lut.{srgbToLinear};
 ghost use Rattle.correlate.specs.Correlate.{Spread};
 ghost use Rattle.error.specs.Error.{scene};
 ghost use Rattle.field.specs.Field.{channelKernel, fieldOf, FieldFits};

@@ -25,8 +25,10 @@ use Rattle.refine.specs.Refine.{refineStatus, refineAccepted, refineOf}
 use Rattle.refine.proofs.Laws.{refine-answers}
 use Rattle.refine.proofs.Promises.{refine-judged}
 use Rattle.perceived.specs.declared.Measured.{Measured}
-use Rattle.perceived.specs.Perceived.{Blur, measuredError, measureStatus, measureOf}
-use Rattle.perceived.proofs.Laws.{frame-fits, measure-answers}
+use Rattle.measuring.specs.Measuring.{Blur, measuredError}
+use Rattle.perceived.specs.Perceived.{measureStatus, measureOf}
+use Rattle.measuring.proofs.Laws.{frame-fits}
+use Rattle.perceived.proofs.Laws.{measure-answers}
 use Rattle.finite.specs.Finite.{RunNumbers, RefinedNumbers, MeasuredNumbers}
 use Rattle.finite.proofs.Prepared.{colour-number}
 use Rattle.finite.proofs.Runs.{run-numbers}

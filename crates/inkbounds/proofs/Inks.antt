@@ -14,10 +14,10 @@ use Rattle.bounds.specs.Bound.{Sized, Bounded, AllBounded, Apart}
 use Rattle.bounds.proofs.Within.{wider, add-within, sub-within, mul-within, div-within}
 use Rattle.bounds.proofs.Sums.{table-within}
 use Rattle.color.specs.declared.YyCxCz.{YyCxCz}
-use Rattle.color.specs.Lut.{srgbToLinear, linear}
+use Rattle.light.specs.Lut.{srgbToLinear, linear}
 use Rattle.color.specs.YyCxCz.{MatrixRow, rowX, rowY, rowZ, rowTimes, matrixRowSum, yycxcz}
 use Rattle.color.specs.Inks.{channel, ink, inkValue, inkValues}
-use Rattle.color.proofs.Every.{every, at}
+use Rattle.light.proofs.Every.{every, at}
 use Rattle.inkbounds.specs.Inks.{inkExponent, ColourWithin}
 
 -- ---- the light table

@@ -10,7 +10,7 @@ use Rattle.base.specs.Grid.{area}
 use Rattle.base.specs.Refusal.{Test, test, judge, isAccepted}
 use Rattle.tiling.specs.Tiling.{tiles, tile, region}
 use Rattle.input.specs.Input.{lengthTest}
-use Rattle.moves.specs.declared.Progress.{Progress}
+use Rattle.progress.specs.declared.Progress.{Progress}
 use Rattle.tile.specs.Tile.{State}
 use Rattle.job.specs.declared.JobRecord.{JobRecord}
 use Rattle.job.specs.declared.TileState.the-variants.{Out, Back}

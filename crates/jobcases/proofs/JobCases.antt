@@ -10,10 +10,10 @@ use Rattle.base.specs.Grid.{width, height, area, inside, place, columnAt, rowAt
 use Rattle.base.specs.Loop.{upTo, fromTo, table, overwrite}
 use Rattle.base.specs.Refusal.{judge, isAccepted}
 use Rattle.color.specs.Inks.{channel, ink, inkValue, inkValues}
-use Rattle.color.specs.Lut.{srgbToLinear, linear}
+use Rattle.light.specs.Lut.{srgbToLinear, linear}
 use Rattle.color.specs.YyCxCz.{yycxcz}
 use Rattle.eye.specs.Ceil.{ceil}
-use Rattle.eye.specs.Exp.{series, squared, expOf}
+use Rattle.exp.specs.Exp.{series, squared, expOf}
 use Rattle.eye.specs.Eye.{toDegrees, sigmaPx, blurRadius, kernelRadius, isFinitePositive, eyeTests}
 use Rattle.blur.specs.Blur.{gaussianAt, gaussianLine, sumOf, blurAt, blurOf, gaussianBlur}
 use Rattle.kernel.specs.Kernel.{rowSum, correlationAt, autocorrelation, kernelOf, eyeKernels}

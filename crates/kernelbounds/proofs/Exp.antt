@@ -10,8 +10,8 @@ use Rattle.base.specs.F64.{_*f_, _/f_, wholef, f1}
 use Rattle.base.proofs.LoopLaws.{upTo-keeps}
 use Rattle.bounds.specs.Bound.{Ranged, Least, countLimit}
 use Rattle.bounds.proofs.Ranges.{mul-ranged, mul-least, div-ranged, less-ranged, less-least, whole-one}
-use Rattle.eye.specs.Constants.{f1024}
-use Rattle.eye.specs.Exp.{step, series, squared, expOf}
+use Rattle.exp.specs.Exp.{f1024}
+use Rattle.exp.specs.Exp.{step, series, squared, expOf}
 
 -- the quotient (y s) / k, for a y from -n to 0
 part : (n : ℕ) → n < countLimit → (y s : Float) (k : ℕ) → 0 < k → k < countLimit → Ranged true n y → Ranged false 1 s → Ranged true n ((y *f s) /f wholef k)

@@ -7,7 +7,6 @@ use lib.Ieee.{Float}
 use Rattle.base.specs.declared.Rect.{Rect}
 use Rattle.base.specs.Limits.{maxInks, cppLength}
 use Rattle.base.specs.Grid.{area, Within, put}
-use Rattle.base.specs.F64.{_+f_}
 use Rattle.tiling.specs.declared.Tiling.{Tiling}
 use Rattle.tiling.specs.Tiling.{image, Limits}
 use Rattle.neighbour.specs.declared.Adjacent.{Adjacent}
@@ -18,7 +17,6 @@ use Rattle.search.specs.declared.Move.{Move}
 use Rattle.search.specs.declared.Move.the-variants.{Stay, Toggle, Swap}
 use Rattle.color.specs.Values.{lessOf, negOf}
 use Rattle.search.specs.Shared.{Shared, inkAt, indexAt}
-use Rattle.moves.specs.declared.Progress.{Progress}
 
 -- the indices: a toggle writes its ink, a swap exchanges two
 abbrev pub exchanged : Rect → ℕ → ℕ → Adjacent → List ℕ → List ℕ
@@ -41,19 +39,6 @@ unfoldable pub movedCpe : Shared → Rect → ℕ → ℕ → Move → List ℕ 
 movedCpe S W x y Stay l f = f
 movedCpe S W x y (Toggle j) l f = addKernels (S .cpp) (S .tiling) W x y (lessOf (inkAt S j) (inkAt S (indexAt W l x y))) f
 movedCpe S W x y (Swap code) l f = swapKernels S W x y (neighbourOf code x y (S .tiling .width) (S .tiling .height)) l f
-
--- the one place where a `Progress` is made
-abbrev pub progressOf : ℕ → Float → Progress
-progressOf accepted delta = record { accepted = accepted; delta = delta }
-
--- 'adds 1 to the count and its cost to the tile's delta'
-abbrev pub oneMore : Progress → Float → Progress
-oneMore p cost = progressOf (p .accepted + 1) (p .delta +f cost)
-
-abbrev pub counted : Move → Float → Progress → Progress
-counted Stay cost p = p
-counted (Toggle j) cost p = oneMore p cost
-counted (Swap code) cost p = oneMore p cost
 
 -- ---- what the code asks for
 

@@ -9,7 +9,7 @@ use sweep::Source;
 use tiling::Tiling;
 ghost use mathlib.Core.Path.{_≡_};
 ghost use mathlib.Core.List.{[]};
-ghost use Prim.Native.Nat.{_+_, _*_, _<_, _≤_, _^_};
+ghost use Prim.Native.Nat.{_+_, _*_, _<_, _≤_};
 ghost use lib.ListN.{length};
 ghost use Rattle.base.specs.Limits.{maxSide, maxInks, cppLength};
 ghost use Rattle.base.specs.Grid.{Inside, Within, area, put};
@@ -19,13 +19,7 @@ ghost use Rattle.neighbour.specs.Neighbour.{neighbourOf};
 ghost use Rattle.sweep.specs.Sweep.{addKernels};
 ghost use Rattle.color.specs.Values.{valuesAt, lessOf, negOf};
 ghost use Rattle.search.specs.Shared.{shared, indexAt, Held};
-ghost use Rattle.moves.specs.Moves.{Writable, NamesInk, exchanged, swapKernels, movedIndices, movedCpe, oneMore, counted};
-
-// Moves accepted and the sum of their costs.
-pub struct Progress {
-    pub accepted: usize,
-    pub delta: f64,
-}
+ghost use Rattle.moves.specs.Moves.{Writable, NamesInk, exchanged, swapKernels, movedIndices, movedCpe};
 
 fn negated(a: YyCxCz) -> YyCxCz
     ensures { λ r. ⌜ r ≡ negOf a ⌝ }
@@ -170,27 +164,5 @@ pub fn apply_move(
         Move::Stay => {}
         Move::Toggle(j) => toggle_to(cpe, indices, inks, cpp, t, w, x, y, j),
         Move::Swap(code) => swap_by(cpe, indices, inks, cpp, t, w, x, y, code),
-    }
-}
-
-fn one_more(p: Progress, cost: f64) -> Progress
-    requires { ⌜ p .accepted < 2 ^ 62 ⌝ }
-    ensures { λ r. ⌜ r ≡ oneMore p cost ⌝ }
-{
-    Progress {
-        accepted: p.accepted + 1,
-        delta: p.delta + cost,
-    }
-}
-
-// A move counts, and its cost joins the sum.
-pub fn count_move(p: Progress, cost: f64, mv: Move) -> Progress
-    requires { ⌜ p .accepted < 2 ^ 62 ⌝ }
-    ensures { λ r. ⌜ r ≡ counted mv cost p ⌝ }
-{
-    match mv {
-        Move::Stay => p,
-        Move::Toggle(_) => one_more(p, cost),
-        Move::Swap(_) => one_more(p, cost),
     }
 }

@@ -6,7 +6,7 @@ use tiling::Tiling;
 ghost use mathlib.Core.Path.{_≡_};
 ghost use Prim.Native.Nat.{_*_};
 ghost use lib.ListN.{length};
-ghost use Rattle.color.specs.Lut.{srgbToLinear};
+ghost use Rattle.light.specs.Lut.{srgbToLinear};
 ghost use Rattle.input.specs.Input.{input};
 ghost use Rattle.prepare.specs.Prepare.{ReadyToPrepare, Prepared};
 
@@ -47,7 +47,7 @@ pub fn prepare(
     requires { ⌜ ReadyToPrepare (input (t .width) (t .height) (now pixels) (now palette) (now indices) (now pinned) params) t (length (now inks)) (length (now cpp)) (length (now cpe)) ⌝ }
     ensures { λ r. ⌜ Prepared (input (t .width) (t .height) (now (pixels .entry)) (now (palette .entry)) (now (indices .entry)) (now (pinned .entry)) params) (now (cpp .entry)) (now (inks .exit)) (now (cpp .exit)) (now (cpe .exit)) r ⌝ }
 {
-    let lut = color::srgb_to_linear_lut();
+    let lut = light::srgb_to_linear_lut();
     prepare_with(
         &lut,
         pixels,

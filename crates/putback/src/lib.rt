@@ -5,7 +5,7 @@ use job::JobRecord;
 use job::TileState;
 use words::Answer;
 ghost use mathlib.Core.Path.{_≡_};
-ghost use Rattle.moves.specs.Moves.{progressOf};
+ghost use Rattle.progress.specs.Progress.{progressOf};
 ghost use Rattle.tile.specs.Tile.{state};
 ghost use Rattle.job.specs.Copy.{pixels};
 ghost use Rattle.job.specs.PutBack.{putBack, putBackOf};

@@ -7,7 +7,7 @@ use tiling::Tiling;
 ghost use mathlib.Core.Path.{_≡_};
 ghost use mathlib.Core.List.{[], _∷_};
 ghost use mathlib.Core.Bool.{not};
-ghost use Rattle.moves.specs.Moves.{progressOf};
+ghost use Rattle.progress.specs.Progress.{progressOf};
 ghost use Rattle.base.specs.Refusal.{test, judge, next, judgeFrom};
 ghost use Rattle.input.specs.Input.{lengthTest};
 ghost use Rattle.tiling.specs.Tiling.{Limits, tiles};

@@ -27,17 +27,7 @@ fn list_in<'a>(
         let end = lines::line_end(text, at);
         let line = &text[at..end];
         at = end + 1;
-        opens::open(
-            line,
-            given,
-            cpe,
-            cpp,
-            counts,
-            inks,
-            states,
-            deltas,
-            record,
-        );
+        opens::open(line, given, cpe, cpp, counts, inks, states, deltas, record);
         lists::take(line, given, cpe, states, record, copy_cpe, copy_indices);
         lists::work(line, given, cpp, inks, record, copy_cpe, copy_indices);
         lists::put_back(

@@ -18,7 +18,7 @@ use Rattle.search.specs.declared.Best.{Best}
 use Rattle.search.specs.declared.Site.{Site}
 use Rattle.search.specs.declared.Move.{Move}
 use Rattle.search.specs.declared.Move.the-variants.{Stay, Toggle, Swap}
-use Rattle.color.specs.Decimal.{decimal}
+use Rattle.base.specs.Decimal.{decimal}
 use Rattle.color.specs.Values.{valuesAt, lessOf}
 use Rattle.search.specs.Shared.{Shared, inkAt, cpeAt, indexAt}
 unfoldable pub use Rattle.cost.specs.Cost.{centreOf, besideOf, centres, gaps, toggleCost, swapCost}

@@ -8,7 +8,7 @@ ghost use Prim.Native.Nat.{_*_, _≤_};
 ghost use lib.ListN.{length};
 ghost use Rattle.base.specs.Loop.{table, upTo};
 ghost use Rattle.base.specs.F64.{_+f_};
-ghost use Rattle.color.specs.Lut.{srgbToLinear};
+ghost use Rattle.light.specs.Lut.{srgbToLinear};
 ghost use Rattle.correlate.specs.Correlate.{at};
 ghost use Rattle.error.specs.Error.{scene};
 ghost use Rattle.squares.specs.Squares.{mirrored, squareOf, lineSquares, blockSquares, SquareFits};

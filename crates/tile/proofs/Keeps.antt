@@ -25,8 +25,9 @@ use Rattle.search.specs.declared.Move.the-variants.{Stay, Toggle, Swap}
 use Rattle.search.specs.Shared.{Shared, indexAt, Named, Held}
 use Rattle.search.specs.Search.{noMove, evaluateOf, FairMove}
 use Rattle.search.proofs.Laws.{held-inside, neighbour-inside, partner-is, evaluate-fair, index-named}
-use Rattle.moves.specs.declared.Progress.{Progress}
-use Rattle.moves.specs.Moves.{exchanged, movedIndices, swapKernels, movedCpe, counted}
+use Rattle.progress.specs.declared.Progress.{Progress}
+use Rattle.progress.specs.Progress.{counted}
+use Rattle.moves.specs.Moves.{exchanged, movedIndices, swapKernels, movedCpe}
 use Rattle.tile.specs.Tile.{State, applied, visitOf, refineRow, refineTile, unpinned, Covers}
 
 -- ---- one index written

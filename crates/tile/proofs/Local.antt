@@ -32,7 +32,8 @@ use Rattle.search.specs.declared.Move.the-variants.{Stay, Toggle, Swap}
 use Rattle.search.specs.Shared.{Shared, cpeAt, indexAt}
 use Rattle.search.specs.Search.{noMove, evaluateOf}
 use Rattle.search.proofs.Laws.{evaluate-same}
-use Rattle.moves.specs.Moves.{exchanged, movedIndices, swapKernels, movedCpe, counted}
+use Rattle.progress.specs.Progress.{counted}
+use Rattle.moves.specs.Moves.{exchanged, movedIndices, swapKernels, movedCpe}
 use Rattle.tile.specs.Tile.{State, applied, visitOf, refineRow, refineTile}
 use Rattle.tile.proofs.Around.{Around, around-inside, around-less, around-next}
 

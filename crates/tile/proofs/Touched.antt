@@ -19,7 +19,8 @@ use Rattle.search.specs.declared.Move.the-variants.{Stay, Toggle, Swap}
 use Rattle.search.specs.Shared.{Shared, indexAt, Held}
 use Rattle.search.specs.Search.{noMove, evaluateOf}
 use Rattle.search.proofs.Laws.{held-inside, neighbour-inside}
-use Rattle.moves.specs.Moves.{exchanged, movedIndices, movedCpe, counted}
+use Rattle.progress.specs.Progress.{counted}
+use Rattle.moves.specs.Moves.{exchanged, movedIndices, movedCpe}
 use Rattle.tile.specs.Tile.{State, state, applied, visitOf, refineRow, refineTile, grown, Covers}
 use Rattle.tile.proofs.Keeps.{covers-held}
 

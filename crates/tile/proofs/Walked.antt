@@ -22,8 +22,9 @@ use Rattle.search.specs.declared.Move.the-variants.{Stay, Toggle, Swap}
 use Rattle.search.specs.Shared.{Shared, shared, Ready, Held}
 use Rattle.search.specs.Search.{FairMove, noMove, evaluateOf}
 use Rattle.search.proofs.Laws.{evaluate-fair}
-use Rattle.moves.specs.declared.Progress.{Progress}
-use Rattle.moves.specs.Moves.{Writable, NamesInk, swapKernels, movedIndices, movedCpe, counted}
+use Rattle.progress.specs.declared.Progress.{Progress}
+use Rattle.progress.specs.Progress.{counted}
+use Rattle.moves.specs.Moves.{Writable, NamesInk, swapKernels, movedIndices, movedCpe}
 use Rattle.tile.specs.Tile.{State, state, applied, visitOf, refineRow}
 use Rattle.tile.proofs.Keeps.{Sound, visit-count}
 

@@ -12,8 +12,9 @@ use Rattle.pins.specs.Pins.{pinnedAt}
 use Rattle.search.specs.declared.Best.{Best}
 use Rattle.search.specs.Shared.{Shared}
 use Rattle.search.specs.Search.{noMove, evaluateOf}
-use Rattle.moves.specs.declared.Progress.{Progress}
-use Rattle.moves.specs.Moves.{progressOf, movedIndices, movedCpe, counted}
+use Rattle.progress.specs.declared.Progress.{Progress}
+use Rattle.progress.specs.Progress.{progressOf, counted}
+use Rattle.moves.specs.Moves.{movedIndices, movedCpe}
 
 -- the pixels of a window, with the moves accepted so far
 pub record State : Type 0 where

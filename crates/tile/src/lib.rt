@@ -4,7 +4,7 @@
 use base::Index;
 use base::Rect;
 use cost::Tables;
-use moves::Progress;
+use progress::Progress;
 use search::Setup;
 use tiling::Tiling;
 ghost use mathlib.Core.Path.{_≡_};
@@ -40,7 +40,7 @@ fn visit(
     let best = search::evaluate(cpe, indices, pinned, inks, cpp, g, tab, x, y);
     let mv = best.mv;
     moves::apply_move(cpe, indices, inks, cpp, t, tab.w, x, y, mv);
-    moves::count_move(p, best.cost, mv)
+    progress::count_move(p, best.cost, mv)
 }
 
 // Row y of the tile q.

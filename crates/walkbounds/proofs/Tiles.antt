@@ -17,8 +17,8 @@ use Rattle.search.specs.declared.Move.the-variants.{Stay, Toggle, Swap}
 use Rattle.search.specs.Shared.{Shared, Held}
 use Rattle.search.specs.Search.{noMove, evaluateOf}
 use Rattle.search.proofs.Laws.{evaluate-fair}
-use Rattle.moves.specs.declared.Progress.{Progress}
-use Rattle.moves.specs.Moves.{counted}
+use Rattle.progress.specs.declared.Progress.{Progress}
+use Rattle.progress.specs.Progress.{counted}
 use Rattle.tile.specs.Tile.{State, state, applied, visitOf, refineRow, refineTile, noProgress, Covers}
 use Rattle.tile.proofs.Keeps.{Sound, visit-sound, covers-held}
 use Rattle.bounds.specs.Bound.{Bounded, AllBounded, countLimit}

@@ -4,7 +4,7 @@ use base::Index;
 use base::Status;
 use job::JobRecord;
 ghost use mathlib.Core.Path.{_≡_};
-ghost use Rattle.moves.specs.Moves.{progressOf};
+ghost use Rattle.progress.specs.Progress.{progressOf};
 ghost use Rattle.base.specs.F64.{f0};
 ghost use Rattle.base.specs.Refusal.{status};
 ghost use Rattle.tile.specs.Tile.{state};

@@ -1,7 +1,7 @@
 -- `put_back` meets its contract: a refusal keeps all, and a valid put back writes the copy, adds the count and keeps the delta. Assumes nothing.
 use native.Mathlib.Omega.{arith}
 use mathlib.Core.Path.{_≡_}
-use Rattle.moves.specs.Moves.{progressOf}
+use Rattle.progress.specs.Progress.{progressOf}
 use Rattle.base.specs.declared.Status.{Status}
 use Rattle.base.specs.Refusal.{judge}
 use Rattle.tile.specs.Tile.{State, state}

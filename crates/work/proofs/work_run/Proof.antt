@@ -1,6 +1,6 @@
 -- `work_run` meets its contract: once the run has passed it is the call on the record, and its run is only read. Assumes nothing.
 use Rattle.base.specs.Refusal.{status}
-use Rattle.moves.specs.Moves.{progressOf}
+use Rattle.progress.specs.Progress.{progressOf}
 use Rattle.tile.specs.Tile.{state}
 use Rattle.job.specs.Work.{worked}
 use Rattle.job.specs.Boundary.{workRun}

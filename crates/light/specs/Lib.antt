@@ -1,0 +1,2 @@
+pub mod Lut
+pub mod Transfer
