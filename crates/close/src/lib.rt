@@ -46,5 +46,5 @@ pub fn close_run(
         return status;
     }
     let closed = close(run.record, accepted_per_pass, tile_states, deltas);
-    words::leave(record, closed)
+    written::leave(record, closed)
 }

@@ -1,2 +1,1 @@
 pub mod Cost
-pub mod Tables

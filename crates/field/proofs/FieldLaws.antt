@@ -1,31 +1,31 @@
--- The field line by line: a channel as a block, one channel more, lines as rows of pixels, and the whole field. Assumes nothing.
+-- The field line by line: a channel as a block, one channel more, and the whole field. Assumes nothing.
 use Prim.Native.Nat.{ℕ, zero, suc, _+_, _*_, _-_, _/_, _%_, _<_, _≤_, min}
 use native.Mathlib.Omega.{arith}
 use native.Mathlib.Nat.{zero-add, mod-lt, div-lt-iff-lt-mul, div-add-mod', mul-assoc, mul-comm, add-mul, mul-le-mul, mul-le-mul-right}
-use mathlib.Core.Path.{_≡_, refl, sym, ap, subst, _∙_}
+use mathlib.Core.Path.{_≡_, refl, sym, ap, _∙_}
 use mathlib.Core.Logic.{_≢_, ⊎-elim}
 use mathlib.Core.List.{List}
 use lib.ListN.{length}
 use lib.Ieee.{Float, nan}
-use borrow.Rule.Slice.PartMut.{putMid, midOf, mid-len, same-len-mid}
-use Rattle.base.specs.Loop.{fromTo, table}
-use Rattle.base.specs.F64.{_+f_, _*f_, f0}
+use borrow.Rule.Slice.PartMut.{midOf, mid-len}
+use Rattle.base.specs.Loop.{table}
+use Rattle.base.specs.F64.{f0}
 use Rattle.base.proofs.Bounds.{index-lt, image-product, lt-or-ge}
-use Rattle.base.proofs.LoopLaws.{fromTo-same, fromTo-rel}
-use Rattle.base.proofs.PartLaws.{get-part, get-before, get-after}
+use Rattle.base.proofs.LoopLaws.{fromTo-same}
 use Rattle.base.proofs.TableLaws.{length-table, getD-table, table-of}
 use Rattle.color.specs.Inks.{channel}
 use Rattle.tiling.specs.declared.Tiling.{Tiling}
 use Rattle.cpp.specs.declared.Kernel2D.{Kernel2D}
-use Rattle.cpp.specs.Kernel.{KernelFits, size, kernelAt, lumKernel, chromaKernel}
+use Rattle.cpp.specs.Kernel.{KernelFits, size, kernelAt, chromaKernel}
 use Rattle.correlate.specs.Correlate.{at, cellAt, Spread}
 use Rattle.correlate.proofs.RowLaws.{at-mid}
-use Rattle.correlate.proofs.SpreadLaws.{line-end, spread-same}
-use Rattle.error.specs.Error.{Scene, errorAt}
+use Rattle.correlate.proofs.SpreadLaws.{spread-same}
+use Rattle.error.specs.Error.{Scene}
 use Rattle.block.specs.declared.Block.{Block}
 use Rattle.block.specs.Block.{sumTerm, sumRow, sumRows, BlockFits}
 use Rattle.field.specs.Field.{correlateTerm, correlateRow, correlateAt, channelKernel, fieldAt, fieldValue, fieldOf, FieldFits}
-use Rattle.field.specs.Lines.{channelLines, channelBlock, channelSum, FieldLines, woven, Woven}
+use Rattle.weave.specs.Woven.{woven, Woven}
+use Rattle.field.specs.Lines.{channelLines, channelBlock, channelSum, FieldLines}
 
 -- ---- the kernel of a channel
 
@@ -111,56 +111,6 @@ module _ (T : Tiling) (G : Scene) (cpp : List Float) (c : ℕ) (fits : FieldFits
   channel-made B cpe cpe′ e p =
       spread-same (channelLines T c) 0 (T .height) (sumRows (channelBlock T c r) G taps (T .height)) (channelSum T G cpp c) cpe cpe′ (rw e at p) (λ y x low high in-x s. sum-is y x s)
 
--- ---- lines as rows of pixels
-
--- the rows above y are woven, and the others are as they were
-pub record WovenTo (w y : ℕ) (old new : List Float) : Type 0 where
-  pub long : length new ≡ length old
-  pub done : (z i : ℕ) → z < y → i < 3 * w → at new (z * (3 * w) + i) ≡ at old (z * (3 * w) + (i % 3 * w + i / 3))
-  pub rest : (i : ℕ) → y * (3 * w) ≤ i → at new i ≡ at old i
-
--- the row of pixels of row y lies in the list
-pub row-fits : (w h y : ℕ) → y < h → y * (3 * w) + 3 * w ≤ 3 * (h * w)
-row-fits w h y p = let e : h * (3 * w) ≡ 3 * (h * w) = sym (mul-assoc h 3 w) ∙ ap (λ (m : ℕ). m * w) (mul-comm h 3) ∙ mul-assoc 3 h w in omega (arith, line-end (3 * w) y h p, e)
-
-pub woven-none : (w : ℕ) (l : List Float) → WovenTo w 0 l l
-woven-none w l = record { long = refl; done = λ z i p q. absurd (omega (arith, p)); rest = λ i h. refl }
-
--- row y woven: its lines were copied to `lines`, and its part of the list became t
-pub woven-more : (w y at-row : ℕ) (old l lines t : List Float) → at-row ≡ y * (3 * w) → at-row + 3 * w ≤ length l → WovenTo w y old l →
-    lines ≡ midOf at-row (at-row + 3 * w - at-row) l → t ≡ table (3 * w) (woven w lines) →
-    WovenTo w (y + 1) old (putMid at-row (at-row + 3 * w - at-row) l t)
-unfolding woven
-woven-more w y at-row old l lines t start room p copied made =
-    let n = 3 * w in
-    let count : at-row + n - at-row ≡ n = omega arith in
-    let in-list : at-row ≤ length l = omega (arith, room) in
-    let new = putMid at-row (at-row + n - at-row) l t in
-    let long : length t ≡ at-row + n - at-row = ap (λ (x : List Float). length x) made ∙ length-table _ _ ∙ sym count in
-    record {
-      long = same-len-mid at-row (at-row + n - at-row) l t (long ∙ sym (mid-len at-row (at-row + n) l room)) ∙ p .long;
-      done = λ z i q h. ⊎-elim
-          (λ u.
-          let below : z * n + n ≤ y * n = line-end n z y u in
-          get-before nan at-row (at-row + n - at-row) l t in-list long (z * n + i) (omega (arith, below, h, start)) ∙ p .done z i u h)
-          (λ u.
-          let same : z ≡ y = omega (arith, q, u) in
-          let place = i % 3 * w + i / 3 in
-          let inside : place < n = index-lt (i / 3) (i % 3) w 3 ((div-lt-iff-lt-mul (omega arith)) .1 (omega (arith, h))) (mod-lt i (omega arith)) in
-          rw same (ap (λ (b : ℕ). at new (b + i)) (sym start)
-          ∙ get-part at-row (at-row + n - at-row) l in-list nan t i (omega (arith, long, h))
-          ∙ ap (λ (x : List Float). at x i) made ∙ getD-table n (woven w lines) i nan h
-          ∙ ap (λ (x : List Float). at x place) copied ∙ at-mid at-row (at-row + n - at-row) l place (omega (arith, inside))
-          ∙ ap (λ (b : ℕ). at l (b + place)) start ∙ p .rest (y * n + place) (omega arith)))
-          (lt-or-ge z y);
-      rest = λ i h.
-          let next : (y + 1) * n ≡ y * n + n = omega arith in
-          get-after nan at-row (at-row + n - at-row) l t in-list long i (omega (arith, h, next, start)) ∙ p .rest i (omega (arith, h, next));
-    }
-
-pub woven-all : (w h : ℕ) (old new : List Float) → WovenTo w h old new → Woven w h old new
-woven-all w h old new p = record { long = p .long; here = λ y i q b. p .done y i q b }
-
 -- ---- the field
 
 -- value c of pixel (x, y) in its row of pixels, and value x of line 3y + c
@@ -223,13 +173,3 @@ module _ (T : Tiling) (G : Scene) (cpp : List Float) where
 pub length-field : (T : Tiling) (G : Scene) (cpp : List Float) → length (fieldOf T G cpp) ≡ 3 * (T .height * T .width)
 unfolding fieldOf
 length-field T G cpp = length-table _ _
-
--- ---- lines and rows of pixels
-
--- channel c of pixel x of a row of pixels is value x of line c
-pub woven-here : (w : ℕ) (lines : List Float) (x c : ℕ) → c < 3 → cellAt w lines c x ≡ woven w lines (3 * x + c)
-unfolding woven
-woven-here w lines x c h =
-    let q : (3 * x + c) / 3 ≡ x = omega arith in
-    let r : (3 * x + c) % 3 ≡ c = omega arith in
-    rw (q, r)

@@ -2,7 +2,7 @@
 -- How the code works out the field, line by line: what its inner functions promise. Field has the definitions that these come to.
 use mathlib.Core.Path.{_≡_}
 use mathlib.Core.List.{List}
-use Prim.Native.Nat.{ℕ, _+_, _-_, _*_, _/_, _%_, _<_, _≤_, min}
+use Prim.Native.Nat.{ℕ, _+_, _-_, _*_, _<_, _≤_, min}
 use lib.ListN.{length}
 use lib.Ieee.{Float}
 use Rattle.base.specs.Loop.{fromTo}
@@ -34,14 +34,3 @@ pub record FieldLines (T : Tiling) (G : Scene) (cpp : List Float) (n : ℕ) (lin
   pub long : length lines ≡ 3 * (T .height * T .width)
   pub done : (x y c : ℕ) → x < T .width → y < T .height → c < n → cellAt (T .width) lines (c + 3 * y) x ≡ fieldAt T G cpp x y c
   pub rest : (x y c : ℕ) → x < T .width → y < T .height → c < 3 → n ≤ c → cellAt (T .width) lines (c + 3 * y) x ≡ f0
-
--- ---- lines as rows of pixels
-
--- value i of a row of pixels is channel i % 3 of pixel i / 3
-unfoldable pub woven : ℕ → List Float → ℕ → Float
-woven w lines i = cellAt w lines (i % 3) (i / 3)
-
--- each of h rows of three lines of w values has become a row of pixels
-pub record Woven (w h : ℕ) (old new : List Float) : Type 0 where
-  pub long : length new ≡ length old
-  pub here : (y i : ℕ) → y < h → i < 3 * w → at new (y * (3 * w) + i) ≡ at old (y * (3 * w) + (i % 3 * w + i / 3))

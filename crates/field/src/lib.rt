@@ -8,15 +8,14 @@ use correlate::Lines;
 use cpp::Kernel2D;
 use tiling::Tiling;
 ghost use mathlib.Core.Path.{_≡_};
-ghost use Prim.Native.Nat.{_*_, _<_, _≤_};
+ghost use Prim.Native.Nat.{_*_, _<_};
 ghost use lib.ListN.{length};
-ghost use Rattle.base.specs.Limits.{maxSide};
-ghost use Rattle.base.specs.Loop.{table};
 ghost use Rattle.light.specs.Lut.{srgbToLinear};
 ghost use Rattle.correlate.specs.Correlate.{Spread};
 ghost use Rattle.error.specs.Error.{scene};
 ghost use Rattle.field.specs.Field.{channelKernel, fieldOf, FieldFits};
-ghost use Rattle.field.specs.Lines.{channelLines, channelBlock, channelSum, FieldLines, woven, Woven};
+ghost use Rattle.weave.specs.Woven.{woven};
+ghost use Rattle.field.specs.Lines.{channelLines, channelBlock, channelSum, FieldLines};
 
 // The kernel of channel c, `cpp[ch]` of dbs.rs.
 fn channel_kernel(t: Tiling, c: usize) -> Kernel2D
@@ -110,38 +109,6 @@ fn correlate_channels(
     }
 }
 
-// Three lines of w values as one row of pixels, three values a pixel.
-fn weave(row: &mut [f64], lines: &[f64], w: usize)
-    requires { ⌜ (length (now row) ≡ 3 * w) × (length (now lines) ≡ 3 * w) × (w ≤ maxSide) ⌝ }
-    ensures { λ _. ⌜ now (row .exit) ≡ table (3 * w) (woven w (now (lines .entry))) ⌝ }
-{
-    let mut x = 0;
-    while x < w {
-        let j = 3 * x;
-        row[j] = lines[x];
-        row[j + 1] = lines[w + x];
-        row[j + 2] = lines[w + w + x];
-        x += 1;
-    }
-}
-
-// The lines of each row of `cpe` as a row of pixels. `lines` is for a copy of a row's lines.
-fn weave_rows(cpe: &mut [f64], t: Tiling, lines: &mut [f64])
-    requires { ⌜ (1 ≤ t .width) × (t .width ≤ maxSide) × (t .height ≤ maxSide) ⌝ }
-    requires { ⌜ (length (now lines) ≡ 3 * t .width) × (length (now cpe) ≡ 3 * (t .height * t .width)) ⌝ }
-    ensures { λ _. ⌜ Woven (t .width) (t .height) (now (cpe .entry)) (now (cpe .exit)) ⌝ }
-{
-    let w = t.width;
-    let n = 3 * w;
-    let mut y = 0;
-    while y < t.height {
-        let at = y * n;
-        copy::copy_values(&cpe[at..at + n], lines);
-        weave(&mut cpe[at..at + n], lines, w);
-        y += 1;
-    }
-}
-
 // The field, with room lent for a line and for the lines of a row.
 fn field_by_lines(
     lut: &[u64; 256],
@@ -161,7 +128,7 @@ fn field_by_lines(
     ensures { λ _. ⌜ now (cpe .exit) ≡ fieldOf t (scene (now (pixels .entry)) (now (indices .entry)) (now (pinned .entry)) (now (inks .entry))) (now (cpp .entry)) ⌝ }
 {
     correlate_channels(lut, pixels, indices, pinned, inks, cpp, t, line, cpe);
-    weave_rows(cpe, t, lines);
+    weave::weave_rows(cpe, t, lines);
 }
 
 // The initial `cpe`, three values a pixel: document 01's field.

@@ -47,5 +47,5 @@ pub fn open_run(
         deltas,
         inks,
     );
-    words::enter(record, answer)
+    written::enter(record, answer)
 }

@@ -29,9 +29,9 @@ use Rattle.neighbour.proofs.Laws.{stay, on, back, Smalls, all-small}
 use Rattle.pins.specs.Pins.{pinnedAt}
 use Rattle.tiling.specs.declared.Tiling.{Tiling}
 use Rattle.tiling.specs.Tiling.{image}
-use Rattle.cost.specs.declared.Tables.{Tables}
-use Rattle.cost.specs.Tables.{stepTo, stepOf}
-use Rattle.cost.proofs.AllEight.{Found, all-eight}
+use Rattle.tables.specs.declared.Tables.{Tables}
+use Rattle.tables.specs.Tables.{stepTo, stepOf}
+use Rattle.tables.proofs.AllEight.{Found, all-eight}
 use Rattle.places.specs.declared.Spot.{Spot}
 use Rattle.places.specs.Places.{placeOf, Findable, Amid, Spotted}
 use Rattle.places.proofs.Window.{place-index, window-limits, area-limit, neighbour-inside}

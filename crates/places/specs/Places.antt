@@ -14,8 +14,8 @@ use Rattle.neighbour.specs.Neighbour.{neighbourOf}
 use Rattle.pins.specs.Pins.{pinnedAt}
 use Rattle.tiling.specs.declared.Tiling.{Tiling}
 use Rattle.tiling.specs.Tiling.{Limits, image}
-use Rattle.cost.specs.declared.Tables.{Tables}
-use Rattle.cost.specs.Tables.{stepOf}
+use Rattle.tables.specs.declared.Tables.{Tables}
+use Rattle.tables.specs.Tables.{stepOf}
 use Rattle.places.specs.declared.Spot.{Spot}
 
 -- Pixel (x, y) lies in the image, and it and its neighbours in the image lie in the window.

@@ -1,7 +1,7 @@
 // Where a pixel and its neighbours stand: their places in the window and in the mask. Coordinates are the image's.
 use base::Rect;
-use cost::Tables;
 use neighbour::Adjacent;
+use tables::Tables;
 use tiling::Tiling;
 ghost use mathlib.Core.Path.{_≡_};
 ghost use mathlib.Core.Bool.{true};

@@ -83,5 +83,5 @@ pub fn put_back_run(
         accepted,
         delta,
     );
-    words::leave(record, back)
+    written::leave(record, back)
 }

@@ -24,8 +24,8 @@ use Rattle.neighbour.specs.declared.Adjacent.the-variants.{Pixel, Outside}
 use Rattle.pins.specs.Pins.{pinnedAt}
 use Rattle.tiling.specs.declared.Tiling.{Tiling}
 use Rattle.cpp.specs.Kernel.{lumKernel, chromaKernel}
-use Rattle.cost.specs.declared.Tables.{Tables}
-use Rattle.cost.specs.Tables.{gapOf, tablesOf}
+use Rattle.tables.specs.declared.Tables.{Tables}
+use Rattle.tables.specs.Tables.{gapOf, tablesOf}
 use Rattle.places.specs.Places.{Held, placeOf, unpinned, placeBy, partnerPlace, Findable}
 use Rattle.places.proofs.Window.{place-index, area-limit, held-inside, neighbour-inside}
 use Rattle.search.specs.declared.Best.{Best}

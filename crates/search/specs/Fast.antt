@@ -12,7 +12,7 @@ use Rattle.base.specs.Limits.{maxInks, maxPixels}
 use Rattle.base.specs.Loop.{upTo}
 use Rattle.color.specs.declared.YyCxCz.{YyCxCz}
 use Rattle.color.specs.Values.{valuesAt, lessOf}
-use Rattle.cost.specs.declared.Tables.{Tables}
+use Rattle.tables.specs.declared.Tables.{Tables}
 use Rattle.search.specs.declared.Best.{Best}
 use Rattle.search.specs.declared.Choice.{Choice}
 use Rattle.search.specs.declared.Site.{Site}

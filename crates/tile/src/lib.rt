@@ -3,15 +3,15 @@
 // Coordinates are the image's; `cpe` and `indices` hold the pixels of the window.
 use base::Index;
 use base::Rect;
-use cost::Tables;
 use progress::Progress;
 use search::Setup;
+use tables::Tables;
 use tiling::Tiling;
 ghost use mathlib.Core.Path.{_≡_};
 ghost use Prim.Native.Nat.{_<_, _≤_, _^_};
 ghost use lib.ListN.{length};
 ghost use Rattle.search.specs.Shared.{shared, sharedOf, Ready, Held};
-ghost use Rattle.cost.specs.Tables.{tablesOf};
+ghost use Rattle.tables.specs.Tables.{tablesOf};
 ghost use Rattle.tile.specs.Tile.{state, visitOf, refineRow, refineTile, noProgress, Covers};
 
 // One pixel: its best move, unless it is pinned.
@@ -121,6 +121,6 @@ pub fn refine_tile(
         tiling: t,
         inks: count,
     };
-    let tab = cost::tables_of(cpp, t, w);
+    let tab = tables::tables_of(cpp, t, w);
     refine_rows(cpe, indices, pinned, inks, cpp, g, tab, q)
 }

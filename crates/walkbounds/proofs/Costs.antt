@@ -26,7 +26,7 @@ use Rattle.search.specs.declared.Move.{Move}
 use Rattle.search.specs.declared.Move.the-variants.{Stay, Toggle, Swap}
 use Rattle.search.specs.Shared.{Shared, inkAt, cpeAt, indexAt, Named, Held}
 use Rattle.search.specs.Search.{centreOf, valueOf, besideOf, centres, gaps, toggleTerm, swapTerm, total, toggleCost, swapCost, betterOf, noMove, siteAt, tryToggle, toggles, partnerOf, swapWith, trySwap, swaps, evaluateOf, FairMove}
-use Rattle.cost.proofs.AllEight.{Found, centre-found}
+use Rattle.tables.proofs.AllEight.{Found, centre-found}
 use Rattle.search.proofs.Laws.{held-inside, neighbour-inside, partner-is, index-named}
 use Rattle.bounds.specs.Bound.{Bounded, AllBounded, countLimit}
 use Rattle.bounds.proofs.Within.{zero-within, wider, more, add-within, sub-within, mul-within}

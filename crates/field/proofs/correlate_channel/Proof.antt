@@ -1,6 +1,5 @@
 -- `correlate_channel` meets its contract: the channel's lines are a block, and its taps the kernel's part of the store. Assumes nothing.
-use Prim.Native.Nat.{_+_, _*_, _-_, _≤_, _<_}
-use mathlib.Core.Path.{_≡_}
+use Prim.Native.Nat.{_-_}
 use native.Mathlib.Omega.{arith}
 use lib.ListN.{length}
 use Rattle.error.specs.Error.{Scene, scene}

@@ -1,8 +1,5 @@
 -- `field_by_lines` meets its contract: the lines of all channels, woven. Assumes nothing.
-use mathlib.Core.Path.{_≡_, _∙_}
-use Prim.Native.Nat.{_*_}
-use native.Mathlib.Omega.{arith}
-use lib.ListN.{length}
+use mathlib.Core.Path.{_∙_}
 use Rattle.error.specs.Error.{scene}
 use Rattle.field.proofs.FieldLaws.{field-made}
 use borrow.Author.Needs.{needs}

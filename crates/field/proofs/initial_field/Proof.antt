@@ -1,7 +1,6 @@
 -- `initial_field` meets its contract: two local arrays have the room. Assumes nothing.
-use mathlib.Core.Path.{_≡_, sym}
+use mathlib.Core.Path.{sym}
 use native.Mathlib.Omega.{arith}
-use lib.ListN.{length}
 use lib.Seq.{length-take-le}
 use borrow.Author.Needs.{needs}
 use Rattle.field.proofs.initial_field.Statement.{statement}

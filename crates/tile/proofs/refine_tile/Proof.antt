@@ -7,8 +7,8 @@ use lib.Ieee.{Float}
 use borrow.Author.Needs.{needs}
 use Rattle.base.specs.declared.Rect.{Rect}
 use Rattle.tiling.specs.declared.Tiling.{Tiling}
-use Rattle.cost.specs.declared.Tables.{Tables}
-use Rattle.cost.specs.Tables.{tablesOf}
+use Rattle.tables.specs.declared.Tables.{Tables}
+use Rattle.tables.specs.Tables.{tablesOf}
 use Rattle.search.specs.Shared.{Shared, shared, Ready}
 use Rattle.search.proofs.Laws.{ready-limits}
 use Rattle.tile.specs.Tile.{Covers}
