@@ -1,6 +1,7 @@
 // The opening of a list of job calls: a line of compare/replay.txt is a call of open on parts of buffers, and its answer is
 // written in that file's form; another line is passed over. In a line, numbers from 0 count its words.
 use base::Status;
+use given::Given;
 
 fn print_opened(
     s: Status,
@@ -21,9 +22,11 @@ fn print_opened(
     lines::end_line();
 }
 
-pub fn open(
+// The call, given what the line has.
+fn call(
     line: &[u8],
-    given: &mut [u8],
+    g: Given,
+    given: &[u8],
     cpe: &mut [f64],
     cpp: &mut [f64],
     counts: &[u32],
@@ -32,10 +35,6 @@ pub fn open(
     deltas: &mut [f64],
     record: &mut [u64],
 ) {
-    if !lines::begins(line, b"open") {
-        return;
-    }
-    let g = given::read_given(line, given);
     let cpe = lines::floats(line, 10, cpe, 0);
     let cpp = lines::floats(line, 11, cpp, 0);
     let inks = lines::floats(line, 13, inks, 0);
@@ -61,4 +60,33 @@ pub fn open(
         inks,
     );
     print_opened(s, cpe, cpp, inks, states, deltas, record);
+}
+
+pub fn open(
+    line: &[u8],
+    given: &mut [u8],
+    cpe: &mut [f64],
+    cpp: &mut [f64],
+    counts: &[u32],
+    inks: &mut [f64],
+    states: &mut [u8],
+    deltas: &mut [f64],
+    record: &mut [u64],
+) {
+    if !lines::begins(line, b"open") {
+        return;
+    }
+    let g = given::read_given(line, given);
+    call(
+        line,
+        g,
+        given,
+        cpe,
+        cpp,
+        counts,
+        inks,
+        states,
+        deltas,
+        record,
+    );
 }
