@@ -1,5 +1,5 @@
 // Lists of job calls: a line of compare/replay.txt is a call on parts of buffers, and its answer is written in
-// that file's form. One function to a kind of line, which returns where the line is not its own. In a line, numbers from 0 count its words.
+// that file's form. One function to a kind of line. In a line, numbers from 0 count its words.
 use base::Index;
 use base::Status;
 use given::INDICES;
@@ -31,9 +31,6 @@ pub fn take(
     copy_cpe: &mut [f64],
     copy_indices: &mut [Index],
 ) {
-    if !lines::begins(line, b"take") {
-        return;
-    }
     let states = lines::part(line, 5, states, 0);
     let copy_cpe = lines::floats(line, 7, copy_cpe, 3 * from(line));
     let copy_indices = lines::part(line, 8, copy_indices, from(line));
@@ -68,9 +65,6 @@ pub fn work(
     copy_cpe: &mut [f64],
     copy_indices: &mut [Index],
 ) {
-    if !lines::begins(line, b"work") {
-        return;
-    }
     let copy_cpe = lines::floats(line, 7, copy_cpe, 3 * from(line));
     let copy_indices = lines::part(line, 8, copy_indices, from(line));
     let w = dbs::dbs_work(
@@ -113,9 +107,6 @@ pub fn put_back(
     copy_cpe: &[f64],
     copy_indices: &[Index],
 ) {
-    if !lines::begins(line, b"put_") {
-        return;
-    }
     let indices = lines::part(line, 5, given, INDICES);
     let cpe = lines::floats(line, 6, cpe, 0);
     let states = lines::part(line, 7, states, 0);
@@ -143,9 +134,6 @@ pub fn close(
     deltas: &[f64],
     record: &mut [u64],
 ) {
-    if !lines::begins(line, b"clos") {
-        return;
-    }
     let counts = lines::counts(line, 1, counts);
     let states = lines::part(line, 2, states, 0);
     let record = lines::words(line, 4, record);
@@ -164,9 +152,6 @@ pub fn close(
 
 // Word I of the record is set.
 pub fn set_word(line: &[u8], record: &mut [u64]) {
-    if !lines::begins(line, b"word") {
-        return;
-    }
     let i = lines::number(line, 1);
     if i < record.len() as u64 {
         record[i as usize] = lines::number_from(line, lines::word(line, 2), 16);
@@ -175,9 +160,6 @@ pub fn set_word(line: &[u8], record: &mut [u64]) {
 
 // Cell I of the copies' indices is set.
 pub fn set_index(line: &[u8], copy_indices: &mut [Index]) {
-    if !lines::begins(line, b"inde") {
-        return;
-    }
     let i = lines::number(line, 1);
     if i < copy_indices.len() as u64 {
         copy_indices[i as usize] = lines::clamp(lines::number(line, 2), 255) as u8;

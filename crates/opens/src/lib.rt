@@ -1,5 +1,5 @@
 // The opening of a list of job calls: a line of compare/replay.txt is a call of open on parts of buffers, and its answer is
-// written in that file's form; another line is passed over. In a line, numbers from 0 count its words.
+// written in that file's form. In a line, numbers from 0 count its words.
 use base::Status;
 use given::Given;
 
@@ -22,8 +22,7 @@ fn print_opened(
     lines::end_line();
 }
 
-// The call, given what the line has.
-fn call(
+pub fn open(
     line: &[u8],
     g: Given,
     given: &[u8],
@@ -60,33 +59,4 @@ fn call(
         inks,
     );
     print_opened(s, cpe, cpp, inks, states, deltas, record);
-}
-
-pub fn open(
-    line: &[u8],
-    given: &mut [u8],
-    cpe: &mut [f64],
-    cpp: &mut [f64],
-    counts: &[u32],
-    inks: &mut [f64],
-    states: &mut [u8],
-    deltas: &mut [f64],
-    record: &mut [u64],
-) {
-    if !lines::begins(line, b"open") {
-        return;
-    }
-    let g = given::read_given(line, given);
-    call(
-        line,
-        g,
-        given,
-        cpe,
-        cpp,
-        counts,
-        inks,
-        states,
-        deltas,
-        record,
-    );
 }

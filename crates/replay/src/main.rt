@@ -8,6 +8,15 @@ ghost use lib.ListN.{length};
 
 const STDIN: i32 = 0;
 
+// A letter that tells the lines of a list apart: the first, or of word and work the last.
+fn kind(line: &[u8]) -> u8 {
+    let first = lines::byte_at(line, 0);
+    if first == b'w' {
+        return lines::byte_at(line, 3);
+    }
+    first
+}
+
 // The answer is at the buffers' lifetime: they are lent for good, and nothing is owed of their lengths.
 fn list_in<'a>(
     text: &[u8],
@@ -27,22 +36,43 @@ fn list_in<'a>(
         let end = lines::line_end(text, at);
         let line = &text[at..end];
         at = end + 1;
-        opens::open(line, given, cpe, cpp, counts, inks, states, deltas, record);
-        lists::take(line, given, cpe, states, record, copy_cpe, copy_indices);
-        lists::work(line, given, cpp, inks, record, copy_cpe, copy_indices);
-        lists::put_back(
-            line,
-            given,
-            cpe,
-            states,
-            deltas,
-            record,
-            copy_cpe,
-            copy_indices,
-        );
-        lists::close(line, counts, states, deltas, record);
-        lists::set_word(line, record);
-        lists::set_index(line, copy_indices);
+        let kind = kind(line);
+        if kind == b'o' {
+            let g = given::read_given(line, given);
+            opens::open(
+                line,
+                g,
+                given,
+                cpe,
+                cpp,
+                counts,
+                inks,
+                states,
+                deltas,
+                record,
+            );
+        } else if kind == b't' {
+            lists::take(line, given, cpe, states, record, copy_cpe, copy_indices);
+        } else if kind == b'k' {
+            lists::work(line, given, cpp, inks, record, copy_cpe, copy_indices);
+        } else if kind == b'p' {
+            lists::put_back(
+                line,
+                given,
+                cpe,
+                states,
+                deltas,
+                record,
+                copy_cpe,
+                copy_indices,
+            );
+        } else if kind == b'c' {
+            lists::close(line, counts, states, deltas, record);
+        } else if kind == b'd' {
+            lists::set_word(line, record);
+        } else {
+            lists::set_index(line, copy_indices);
+        }
     }
     record
 }
