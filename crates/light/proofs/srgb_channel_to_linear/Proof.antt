@@ -1,4 +1,4 @@
--- `color::srgb_channel_to_linear`: the lent table is that of specs, and every entry keeps its rule. Assumes nothing.
+-- `light::srgb_channel_to_linear`: the lent table is that of specs, and every entry keeps its rule. Assumes nothing.
 use borrow.Author.Needs.{needs}
 use mathlib.Core.Path.{refl}
 use Rattle.light.specs.Lut.{linear}

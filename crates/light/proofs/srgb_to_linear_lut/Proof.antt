@@ -1,4 +1,4 @@
--- `color::srgb_to_linear_lut`: the code's table is that of specs, entry by entry. Assumes nothing.
+-- `light::srgb_to_linear_lut`: the code's table is that of specs, entry by entry. Assumes nothing.
 use mathlib.Core.Path.{refl}
 use Rattle.light.specs.Lut.{srgbToLinear}
 use Rattle.light.proofs.srgb_to_linear_lut.Statement.{statement}

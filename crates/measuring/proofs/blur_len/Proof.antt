@@ -1,4 +1,4 @@
--- `perceived::blur_len` meets its contract: a blur has (2r + 1)² values, and r is at most 16. Assumes nothing.
+-- `measuring::blur_len` meets its contract: a blur has (2r + 1)² values, and r is at most 16. Assumes nothing.
 use mathlib.Core.Path.{ap, _∙_}
 use native.Mathlib.Omega.{arith}
 use borrow.Author.Needs.{needs}

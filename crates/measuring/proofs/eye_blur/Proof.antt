@@ -1,4 +1,4 @@
--- `perceived::eye_blur` meets its contract: blur and radius are those of the width that was found. Assumes nothing.
+-- `measuring::eye_blur` meets its contract: blur and radius are those of the width that was found. Assumes nothing.
 use mathlib.Core.Path.{ap, _∙_}
 use borrow.Author.Needs.{needs}
 use Rattle.eye.specs.Eye.{blurRadius}

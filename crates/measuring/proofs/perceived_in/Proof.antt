@@ -1,4 +1,4 @@
--- `perceived::perceived_in` meets its contract: the lent parts are cut to the palette's length and to both blurs. Assumes nothing.
+-- `measuring::perceived_in` meets its contract: the lent parts are cut to the palette's length and to both blurs. Assumes nothing.
 use Prim.Native.Nat.{ℕ, _≤_}
 use mathlib.Core.List.{List, []}
 use mathlib.Core.Path.{_≡_, sym, _∙_}

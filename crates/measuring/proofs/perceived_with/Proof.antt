@@ -1,4 +1,4 @@
--- `perceived::perceived_with` meets its contract: the ink values and both blurs are the input's, and what is measured fits. Assumes nothing.
+-- `measuring::perceived_with` meets its contract: the ink values and both blurs are the input's, and what is measured fits. Assumes nothing.
 use mathlib.Core.List.{[]}
 use borrow.Author.Needs.{needs}
 use Rattle.input.specs.Input.{Input, input}

@@ -1,4 +1,4 @@
--- `walk::walk_tile` meets its contract: the tile is refined on the whole image, and its answer joins the run. Assumes nothing.
+-- `phases::walk_tile` meets its contract: the tile is refined on the whole image, and its answer joins the run. Assumes nothing.
 use Prim.Native.Nat.{_≤_}
 use native.Mathlib.Omega.{arith}
 use Rattle.tiling.specs.Tiling.{image, tile}

@@ -1,4 +1,4 @@
--- `walk::walk_try` meets its contract: each arm is one of the definition's. Assumes nothing.
+-- `phases::walk_try` meets its contract: each arm is one of the definition's. Assumes nothing.
 use Rattle.phases.specs.Phases.{walkTry}
 use borrow.Author.Needs.{needs}
 use Rattle.phases.proofs.walk_try.Statement.{statement}

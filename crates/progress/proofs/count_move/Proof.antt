@@ -1,4 +1,4 @@
--- `moves::count_move` meets its contract: each arm is one of the definition's. Assumes nothing.
+-- `progress::count_move` meets its contract: each arm is one of the definition's. Assumes nothing.
 use borrow.Author.Needs.{needs}
 use Rattle.progress.proofs.count_move.Statement.{statement}
 use Rattle.progress.proofs.count_move.Tie as tie

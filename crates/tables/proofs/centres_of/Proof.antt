@@ -1,4 +1,4 @@
--- `cost::centres_of` meets its contract: both kernels have room in the store, and each is read at its centre. Assumes nothing.
+-- `tables::centres_of` meets its contract: both kernels have room in the store, and each is read at its centre. Assumes nothing.
 use native.Mathlib.Omega.{arith}
 use borrow.Author.Needs.{needs}
 use Rattle.cost.specs.Cost.{centres}

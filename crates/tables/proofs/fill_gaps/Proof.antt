@@ -1,4 +1,4 @@
--- `cost::fill_gaps` meets its contract: after each turn the gaps of the codes passed are filled in. Assumes nothing.
+-- `tables::fill_gaps` meets its contract: after each turn the gaps of the codes passed are filled in. Assumes nothing.
 use mathlib.Core.Path.{_≡_}
 use Prim.Native.Nat.{_-_, _≤_}
 use native.Mathlib.Omega.{arith}

@@ -1,4 +1,4 @@
--- `cost::fill_steps` meets its contract: after each turn the steps of the codes passed are filled in. Assumes nothing.
+-- `tables::fill_steps` meets its contract: after each turn the steps of the codes passed are filled in. Assumes nothing.
 use mathlib.Core.Path.{_≡_}
 use Prim.Native.Nat.{_-_, _≤_}
 use native.Mathlib.Omega.{arith}

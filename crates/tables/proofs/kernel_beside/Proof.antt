@@ -1,4 +1,4 @@
--- `cost::kernel_beside` meets its contract: the neighbour of the centre lies in the kernel, and a centre has all eight. Assumes nothing.
+-- `tables::kernel_beside` meets its contract: the neighbour of the centre lies in the kernel, and a centre has all eight. Assumes nothing.
 use mathlib.Core.Path.{_≡_, sym, _∙_, subst}
 use Prim.Native.Nat.{_+_, _*_}
 use native.Mathlib.Omega.{arith}

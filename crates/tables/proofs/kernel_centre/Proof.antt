@@ -1,4 +1,4 @@
--- `cost::kernel_centre` meets its contract: the centre lies in the kernel. Assumes nothing.
+-- `tables::kernel_centre` meets its contract: the centre lies in the kernel. Assumes nothing.
 use borrow.Author.Needs.{needs}
 use Rattle.cost.specs.Cost.{centreOf}
 use Rattle.tables.proofs.kernel_centre.Statement.{statement}

@@ -1,4 +1,4 @@
--- `cost::step_of` meets its contract: the neighbour of the middle of 3 × 3 pixels is the definition's. Assumes nothing.
+-- `tables::step_of` meets its contract: the neighbour of the middle of 3 × 3 pixels is the definition's. Assumes nothing.
 use mathlib.Core.Path.{_≡_, sym, _∙_, subst}
 use Prim.Native.Nat.{_-_, _*_, _≤_}
 use native.Mathlib.Omega.{arith}

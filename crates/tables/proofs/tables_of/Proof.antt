@@ -1,4 +1,4 @@
--- `cost::tables_of` meets its contract: each table is filled as the definition says. Assumes nothing.
+-- `tables::tables_of` meets its contract: each table is filled as the definition says. Assumes nothing.
 use mathlib.Core.Path.{_≡_, refl}
 use mathlib.Core.List.{List}
 use Prim.Native.Nat.{ℕ, _≤_}
