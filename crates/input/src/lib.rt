@@ -1,16 +1,14 @@
-// The tests of what refine, measure and open are given: refusals 1 to 11 in order, as the lists of
-// specs/Input.antt have them. Every function takes any numbers and slices of any length: the size is
+// The tests of what refine, measure and open are given: refusals 1 to 9 in order, as the lists of
+// specs/Input.antt have them; 10 and 11 are in the crate `sizes`. Every function takes any numbers and slices of any length: the size is
 // tested before anything is multiplied. An input is accepted exactly where it is valid
 // (specs/Valid.antt, proofs/Validity.antt).
-use base::CPP_LEN;
 use base::Index;
-use base::MAX_PASSES;
 use base::Status;
 use eye::DbsParams;
 use eye::Eye;
 ghost use mathlib.Core.Path.{_≡_};
-ghost use Rattle.base.specs.Refusal.{judge, accepted, next, judgeFrom};
-ghost use Rattle.input.specs.Input.{halftoneTests, imageTests, inkTests, input, checkedOf, lengthTest, runTests, refineRunTests, openRunTests};
+ghost use Rattle.base.specs.Refusal.{next, judgeFrom};
+ghost use Rattle.input.specs.Input.{halftoneTests, imageTests, inkTests, input, checkedOf, lengthTest};
 
 // Refusals 3 and 4, of an image of n pixels.
 fn check_halftone(s: Status, n: usize, indices_len: usize, pinned_len: usize) -> Status
@@ -79,70 +77,4 @@ pub fn next_length(s: Status, buffer: u64, len: usize, wanted: usize) -> Status
     ensures { λ r. ⌜ r ≡ next s (lengthTest buffer len wanted) ⌝ }
 {
     base::next(s, len != wanted, 11, buffer)
-}
-
-// Refusal 10, and 11 of buffers 1 to 3.
-fn check_run(
-    max_passes: u64,
-    cpe_wanted: usize,
-    cpe_len: usize,
-    cpp_len: usize,
-    accepted_per_pass_len: usize,
-) -> Status
-    ensures { λ r. ⌜ r ≡ judgeFrom accepted (runTests «max_passes» «cpe_wanted» «cpe_len» «cpp_len» «accepted_per_pass_len») ⌝ }
-{
-    let s1 = base::next(base::ok(), max_passes > MAX_PASSES as u64, 10, 0);
-    let s2 = next_length(s1, 1, cpe_len, cpe_wanted);
-    let s3 = next_length(s2, 2, cpp_len, CPP_LEN);
-    next_length(s3, 3, accepted_per_pass_len, max_passes as usize)
-}
-
-// Refusals 10 and 11 of refine, after `check_input`. `cpe_wanted` and `inks_wanted` are the lengths
-// that `cpe` and `inks` are to have: 3 for each pixel and 3 for each ink.
-pub fn check_refine(
-    max_passes: u64,
-    cpe_wanted: usize,
-    inks_wanted: usize,
-    cpe_len: usize,
-    cpp_len: usize,
-    accepted_per_pass_len: usize,
-    inks_len: usize,
-) -> Status
-    ensures { λ r. ⌜ r ≡ judge (refineRunTests «max_passes» «cpe_wanted» «inks_wanted» «cpe_len» «cpp_len» «accepted_per_pass_len» «inks_len») ⌝ }
-{
-    let run = check_run(
-        max_passes,
-        cpe_wanted,
-        cpe_len,
-        cpp_len,
-        accepted_per_pass_len,
-    );
-    next_length(run, 8, inks_len, inks_wanted)
-}
-
-// Refusals 10 and 11 of open, after `check_input`, for an image of so many tiles.
-pub fn check_open(
-    max_passes: u64,
-    cpe_wanted: usize,
-    inks_wanted: usize,
-    tiles: usize,
-    cpe_len: usize,
-    cpp_len: usize,
-    accepted_per_pass_len: usize,
-    tile_states_len: usize,
-    deltas_len: usize,
-    inks_len: usize,
-) -> Status
-    ensures { λ r. ⌜ r ≡ judge (openRunTests «max_passes» «cpe_wanted» «inks_wanted» tiles «cpe_len» «cpp_len» «accepted_per_pass_len» «tile_states_len» «deltas_len» «inks_len») ⌝ }
-{
-    let run = check_run(
-        max_passes,
-        cpe_wanted,
-        cpe_len,
-        cpp_len,
-        accepted_per_pass_len,
-    );
-    let s1 = next_length(run, 4, tile_states_len, tiles);
-    let s2 = next_length(s1, 5, deltas_len, tiles);
-    next_length(s2, 8, inks_len, inks_wanted)
 }

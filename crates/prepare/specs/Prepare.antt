@@ -8,23 +8,13 @@ use Rattle.base.specs.Limits.{cppLength}
 use Rattle.base.specs.Refusal.{judge, accepted}
 use Rattle.tiling.specs.declared.Tiling.{Tiling}
 use Rattle.color.specs.Inks.{inkValues}
-use Rattle.eye.specs.Constants.{alphaLum, alphaChroma}
-use Rattle.eye.specs.Eye.{kernelRadius}
 use Rattle.kernel.specs.Kernel.{eyeKernels}
 use Rattle.error.specs.Error.{Scene, scene, initialError}
 use Rattle.field.specs.Field.{fieldOf}
 use Rattle.input.specs.Input.{Input, pixelCount, inkCount, inputTests}
 use Rattle.search.specs.Shared.{Shared, shared}
 use Rattle.walk.specs.Walk.{Walk, walkStart, walkAt}
-
--- the image's size and both kernel radii
-unfoldable pub tilingOf : Input → Tiling
-tilingOf I = record {
-  width = I .width;
-  height = I .height;
-  lum = kernelRadius alphaLum (I .params);
-  chroma = kernelRadius alphaChroma (I .params);
-}
+unfoldable pub use Rattle.sizes.specs.Sizes.{tilingOf}
 
 -- ink values, kernel store, field and initial error
 unfoldable pub inksOf : Input → List Float

@@ -3,9 +3,7 @@ use accepted::DbsStats;
 use base::Index;
 use base::Status;
 use eye::DbsParams;
-use tiling::Tiling;
 ghost use mathlib.Core.Path.{_≡_};
-ghost use Prim.Native.Nat.{_*_};
 ghost use Rattle.input.specs.Input.{input};
 ghost use Rattle.refine.specs.Refine.{refinement, refusedStats, refineOf};
 
@@ -38,30 +36,17 @@ pub fn refine(
 ) -> DbsStats
     ensures { λ r. ⌜ refinement r (now (indices .exit)) (now (cpe .exit)) (now (cpp .exit)) (now («accepted_per_pass» .exit)) (now (inks .exit)) ≡ refineOf (input width height (now (pixels .entry)) (now (palette .entry)) (now (indices .entry)) (now (pinned .entry)) params) «max_passes» (now (cpe .entry)) (now (cpp .entry)) (now («accepted_per_pass» .entry)) (now (inks .entry)) ⌝ }
 {
-    let eye = input::check_input(width, height, pixels, palette, indices, pinned, params);
-    let status = eye.status;
-    if status.number != 0 {
-        return refused(status);
-    }
-    let t = Tiling {
-        width: width as usize,
-        height: height as usize,
-        lum: eye.lum_radius,
-        chroma: eye.chroma_radius,
-    };
-    let field = 3 * (t.height * t.width);
-    let values = 3 * (palette.len() / 3);
-    let run = input::check_refine(
+    let s = sizes::check_sizes(width, height, pixels, palette, indices, pinned, params);
+    let status = sizes::check_refine(
+        s,
         max_passes,
-        field,
-        values,
         cpe.len(),
         cpp.len(),
         accepted_per_pass.len(),
         inks.len(),
     );
-    if run.number != 0 {
-        return refused(run);
+    if status.number != 0 {
+        return refused(status);
     }
     accepted::refine_accepted(
         pixels,
@@ -69,7 +54,7 @@ pub fn refine(
         indices,
         pinned,
         params,
-        t,
+        s.tiling,
         cpe,
         cpp,
         accepted_per_pass,

@@ -1,84 +1,55 @@
 -- What the code makes, step by step, is what `openOf` says. Assumes nothing.
-use Prim.Native.Nat.{ℕ, _*_, _/_, _≤_}
-use mathlib.Core.Path.{_≡_, sym, ap, _∙_}
+use Prim.Native.Nat.{ℕ, _/_}
+use mathlib.Core.Path.{_≡_, refl}
 use mathlib.Core.List.{List}
 use lib.Dec.{eqb}
 use lib.ListN.{length, replicate}
 use lib.Ieee.{Float}
 use Rattle.base.specs.declared.Status.{Status}
 use Rattle.base.specs.F64.{f0}
-use Rattle.base.specs.Refusal.{judge, accepted}
-use Rattle.base.proofs.Bounds.{image-product}
-use Rattle.eye.specs.declared.Eye.{Eye}
-use Rattle.tiling.specs.declared.Tiling.{Tiling}
-use Rattle.tiling.specs.Tiling.{Limits, tiles}
-use Rattle.input.specs.Input.{Input, pixelCount, inkCount, inputTests, checkedOf, openRunTests, openTests}
-use Rattle.input.specs.Valid.{Valid, ValidOpen}
-use Rattle.input.proofs.InputLaws.{checked-accepted, input-refused, input-accepted}
-use Rattle.input.proofs.Validity.{valid-iff, valid-radii, open-passes}
+use Rattle.base.specs.Refusal.{judge, judgeFrom}
+use Rattle.tiling.specs.Tiling.{tiles}
+use Rattle.input.specs.Input.{Input, input, inkCount, openRunTests}
+use Rattle.input.specs.Valid.{ValidOpen}
+use Rattle.input.proofs.Validity.{valid-iff, open-passes}
+use Rattle.sizes.specs.declared.Sizes.{Sizes}
+use Rattle.sizes.specs.Sizes.{sizesOf}
+use Rattle.sizes.proofs.Laws.{open-verdict, tiling-is}
 use Rattle.prepare.specs.Prepare.{ReadyToPrepare, Prepared, tilingOf}
-use Rattle.refine.proofs.Laws.{tiling-is}
 use Rattle.job.specs.Record.{plan, jobRecord}
 use Rattle.job.specs.Open.{Opening, opened, openTestsOf, firstRecord, openOf}
 use Rattle.job.proofs.Answers.{open-answers}
 
--- ---- the tests
-
--- the tiling that an eye gives
-abbrev pub tilingBy : Input → Eye → Tiling
-tilingBy I e = record { width = I .width; height = I .height; lum = e .«lum_radius»; chroma = e .«chroma_radius» }
-
--- the eye that the first tests found
-module _ (I : Input) (e : Eye) (q : e ≡ checkedOf I) where
-  found : e .status ≡ checkedOf I .status
-  found = ap (λ (v : Eye). v .status) q
-
-  module _ (passes count cpe cpp counts states deltas inks : ℕ) where
-    pub refused-first : (e .status .number ≡ 0 → ⊥) → e .status ≡ judge (openTests I passes count cpe cpp counts states deltas inks)
-    unfolding openTests
-    refused-first f = found ∙ sym (input-refused I _ (rw found at f))
-
-    pub run-judged : e .status .number ≡ 0 → {s : Status} →
-        s ≡ judge (openRunTests passes (3 * pixelCount I) (3 * inkCount I) count cpe cpp counts states deltas inks) →
-        s ≡ judge (openTests I passes count cpe cpp counts states deltas inks)
-    unfolding openTests
-    run-judged z p = p ∙ sym (input-accepted I _ (rw found at z))
-
-  module _ (z : e .status .number ≡ 0) where
-    passed : judge (inputTests I) ≡ accepted
-    passed = checked-accepted I (ap (λ (v : Eye). v .status .number) (sym q) ∙ z)
-
-    valid : Valid I
-    valid = valid-iff I .0 passed
-
-    pub few : I .height * I .width ≤ 16777216
-    few = image-product (I .height) (I .width) (valid .height-most) (valid .width-most)
-
-    pub tiling-found : tilingBy I e ≡ tilingOf I
-    tiling-found = tiling-is I e q z
-
-    pub limits : Limits (tilingOf I)
-    unfolding tilingOf
-    limits =
-        let r = valid-radii I valid in
-        record { wide = valid .width-least; width-limit = valid .width-most; height-limit = valid .height-most; lum-limit = r .0 .high; chroma-limit = r .1 .high }
-
--- ---- accepted
-
-module _ (O : Opening) (v : Eye) (e : v .status ≡ judge (openTestsOf O)) (t : v .status .number ≡ 0 → tilingOf (O .input) ≡ tilingBy (O .input) v) (z : v .status .number ≡ 0) where
-  valid-open : ValidOpen (O .input) (O .passes) (tiles (tilingOf (O .input))) (length (O .cpe)) (length (O .cpp)) (length (O .counts)) (length (O .states)) (length (O .deltas)) (length (O .inks))
+-- the sizes that were found, and the status that followed
+module _ (O : Opening) (S : Sizes) (q : S ≡ sizesOf (O .input)) (r : Status)
+    (e : r ≡ judgeFrom (S .status) (openRunTests (O .passes) (S .field) (S .values) (S .tiles) (length (O .cpe)) (length (O .cpp)) (length (O .counts)) (length (O .states)) (length (O .deltas)) (length (O .inks)))) where
+  pub verdict : r ≡ judge (openTestsOf O)
   unfolding openTestsOf
-  valid-open = open-passes _ _ _ _ _ _ _ _ _ .0 (open-answers O .passed (v .status) e z)
+  verdict = open-verdict (O .input) S q (O .passes) (length (O .cpe)) (length (O .cpp)) (length (O .counts)) (length (O .states)) (length (O .deltas)) (length (O .inks)) r e
 
-  pub accepts : ReadyToPrepare (O .input) (tilingBy (O .input) v) (length (O .inks)) (length (O .cpp)) (length (O .cpe))
-  accepts =
-      let l = valid-open .refine in
-      record { passes = valid-iff (O .input) .1 (l .valid); tiling = sym (t z); inks-length = l .inks-length; cpp-length = l .cpp-length; cpe-length = l .cpe-length }
+  module _ (z : r .number ≡ 0) where
+    valid-open : ValidOpen (O .input) (O .passes) (tiles (tilingOf (O .input))) (length (O .cpe)) (length (O .cpp)) (length (O .counts)) (length (O .states)) (length (O .deltas)) (length (O .inks))
+    unfolding openTestsOf
+    valid-open = open-passes _ _ _ _ _ _ _ _ _ .0 (open-answers O .passed r verdict z)
 
-  pub opens-as : (inks cpp cpe : List Float) (error : Float) (states : List ℕ) (deltas : List Float) →
-      Prepared (O .input) (O .cpp) inks cpp cpe error → states ≡ replicate (length (O .states)) 0 → deltas ≡ replicate (length (O .deltas)) f0 →
-      opened (v .status) (jobRecord (plan (tilingBy (O .input) v) (length (O .input .palette) / 3) (O .passes) error) 0 0 0 error (eqb (O .passes) 0)) cpe cpp states deltas inks ≡ openOf O
-  unfolding firstRecord inkCount
-  opens-as inks cpp cpe error states deltas p b d =
-      let l = valid-open in
-      rw (← t z, p .inks-is, p .cpp-is, p .cpe-is, p .error-is, b, d, l .states-length, l .deltas-length) (open-answers O .made (v .status) e z)
+    -- the input as the tiling has its size
+    abbrev same : Input
+    same = let I = O .input in input (S .tiling .width) (S .tiling .height) (I .pixels) (I .palette) (I .indices) (I .pinned) (I .params)
+
+    found : S .tiling ≡ tilingOf (O .input)
+    found = tiling-is (O .input) S q (valid-open .refine .valid)
+
+    pub ready : ReadyToPrepare same (S .tiling) (length (O .inks)) (length (O .cpp)) (length (O .cpe))
+    unfolding tilingOf
+    ready =
+        let v = valid-open .refine in
+        rw found (record { passes = valid-iff (O .input) .1 (v .valid); tiling = refl; inks-length = v .inks-length; cpp-length = v .cpp-length; cpe-length = v .cpe-length })
+
+    pub opens-as : (inks cpp cpe : List Float) (error : Float) (states : List ℕ) (deltas : List Float) →
+        Prepared same (O .cpp) inks cpp cpe error → states ≡ replicate (length (O .states)) 0 → deltas ≡ replicate (length (O .deltas)) f0 →
+        opened r (jobRecord (plan (S .tiling) (length (O .input .palette) / 3) (O .passes) error) 0 0 0 error (eqb (O .passes) 0)) cpe cpp states deltas inks ≡ openOf O
+    unfolding firstRecord inkCount tilingOf
+    opens-as inks cpp cpe error states deltas p b d =
+        let l = valid-open in
+        let p : Prepared (O .input) (O .cpp) inks cpp cpe error = rw found at p in
+        rw (found, p .inks-is, p .cpp-is, p .cpe-is, p .error-is, b, d, l .states-length, l .deltas-length) (open-answers O .made r verdict z)

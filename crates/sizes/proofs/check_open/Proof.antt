@@ -1,11 +1,8 @@
 -- `check_open` meets its contract: it makes the tests one after the other. Assumes nothing.
-use native.Mathlib.Omega.{arith}
-use Rattle.base.proofs.RefusalLaws.{Numbered}
-use Rattle.base.proofs.JudgeLaws.{by-steps}
 use Rattle.input.specs.Input.{runTests, openRunTests}
 use borrow.Author.Needs.{needs}
-use Rattle.input.proofs.check_open.Statement.{statement}
-use Rattle.input.proofs.check_open.Tie as tie
+use Rattle.sizes.proofs.check_open.Statement.{statement}
+use Rattle.sizes.proofs.check_open.Tie as tie
 
 check-run-requires : tie.Need-check-run-requires
 check-run-requires c κs = search needs
@@ -20,8 +17,8 @@ next-length-requires-3 : tie.Need-next-length-requires-3
 next-length-requires-3 c κs = search needs
 
 returns : tie.Need-returns
-unfolding openRunTests runTests Numbered
-returns c = by-steps _ (omega arith) (rw (c .next-length3 .ensures, c .before .next-length2 .ensures, c .before .before .next-length .ensures, c .before .before .before .check-run .ensures))
+unfolding openRunTests runTests
+returns c = rw (c .next-length3 .ensures, c .before .next-length2 .ensures, c .before .before .next-length .ensures, c .before .before .before .check-run .ensures)
 
 pub check-open-spec : {M : Type 1} → statement M
 check-open-spec =

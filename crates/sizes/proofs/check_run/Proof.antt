@@ -1,11 +1,8 @@
 -- `check_run` meets its contract: it makes the tests one after the other. Assumes nothing.
 use Rattle.input.specs.Input.{runTests}
 use borrow.Author.Needs.{needs}
-use Rattle.input.proofs.check_run.Statement.{statement}
-use Rattle.input.proofs.check_run.Tie as tie
-
-ok-requires : tie.Need-ok-requires
-ok-requires c κs = search needs
+use Rattle.sizes.proofs.check_run.Statement.{statement}
+use Rattle.sizes.proofs.check_run.Tie as tie
 
 next-requires : tie.Need-next-requires
 next-requires c κs = search needs
@@ -21,13 +18,12 @@ next-length-requires-3 c κs = search needs
 
 returns : tie.Need-returns
 unfolding runTests
-returns c = rw (c .next-length3 .ensures, c .before .next-length2 .ensures, c .before .before .next-length .ensures, c .before .before .before .next .ensures, c .before .before .before .before .ok .ensures)
+returns c = rw (c .next-length3 .ensures, c .before .next-length2 .ensures, c .before .before .next-length .ensures, c .before .before .before .next .ensures)
 
 pub check-run-spec : {M : Type 1} → statement M
 check-run-spec =
     tie.close
     (tie.spec
-    ok-requires
     next-requires
     next-length-requires
     next-length-requires-2
