@@ -4,6 +4,7 @@ use mathlib.Core.Path.{_≡_}
 use mathlib.Core.List.{List}
 use lib.ListN.{length}
 use lib.Ieee.{Float}
+use Rattle.base.specs.Limits.{cppLength}
 use Rattle.base.specs.Refusal.{judge, accepted}
 use Rattle.tiling.specs.declared.Tiling.{Tiling}
 use Rattle.tiling.specs.Tiling.{image}
@@ -17,7 +18,7 @@ use Rattle.accepted.specs.Accepted.{refinement, refineAccepted}
 
 module _ (I : Input) (T : Tiling) (inks cpp₀ cpp cpe : List Float) (error : Float) (t : T ≡ tilingOf I) (p : Prepared I cpp₀ inks cpp cpe error) where
   -- the walk can start
-  pub ready-as : judge (inputTests I) ≡ accepted → length cpp₀ ≡ 8450 → Ready (shared T (length (I .palette) / 3) (I .pinned) inks cpp) (image T) (length cpe) (I .indices)
+  pub ready-as : judge (inputTests I) ≡ accepted → length cpp₀ ≡ cppLength → Ready (shared T (length (I .palette) / 3) (I .pinned) inks cpp) (image T) (length cpe) (I .indices)
   unfolding sharedOf inkCount
   ready-as ok e = rw (t, p .inks-is, p .cpp-is, p .cpe-is) (start-ready I ok cpp₀ e)
 

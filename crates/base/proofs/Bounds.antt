@@ -7,6 +7,7 @@ use native.Mathlib.Omega.{arith}
 use native.Mathlib.Nat.{mul-le-mul, mul-le-mul-right}
 use lib.Dec.{ltb}
 use borrow.Author.Tests.{ltb-true, ltb-false}
+use Rattle.base.specs.Limits.{maxSide, maxPixels}
 
 -- pixel (x, y) of w columns and h rows
 pub index-lt : (x y w h : ℕ) → x < w → y < h → y * w + x < h * w
@@ -25,8 +26,8 @@ pub product-le : (a b m n : ℕ) → a ≤ m → b ≤ n → a * b ≤ m * n
 product-le a b m n p q = mul-le-mul p q
 
 -- numbers of at most 4,096: the sides of an image
-pub image-product : (a b : ℕ) → a ≤ 4096 → b ≤ 4096 → a * b ≤ 16777216
-image-product a b p q = product-le a b 4096 4096 p q
+pub image-product : (a b : ℕ) → a ≤ maxSide → b ≤ maxSide → a * b ≤ maxPixels
+image-product a b p q = product-le a b maxSide maxSide p q
 
 by-flag : (a b : ℕ) (t : Bool) → ltb a b ≡ t → (a < b) ⊎ (b ≤ a)
 by-flag a b true e = inl (ltb-true a b e)

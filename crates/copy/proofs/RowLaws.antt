@@ -10,6 +10,7 @@ use lib.ListN.{length, getD, take, drop, length-drop, List·getD-append}
 use lib.Seq.{length-take-le, getD-append-add, getD-take, getD-drop}
 use borrow.Author.Tests.{ltb-true, ltb-false}
 use borrow.Rule.Slice.PartMut.{putMid, midOf, postOf, same-len-mid}
+use Rattle.base.specs.Limits.{maxPixels}
 use Rattle.base.specs.declared.Rect.{Rect}
 use Rattle.base.specs.Grid.{width, height, area, Inside, inside, Within, place, cell, crop, paste}
 use Rattle.base.proofs.GridLaws.{inside-is, inside-yes, widen, place-inj, ext-cell, cell-crop, length-paste, paste-in, paste-out}
@@ -197,6 +198,6 @@ module _ {A : Type 0} (d : A) (k : ℕ) (F P W : Rect) (from to : List A) (fits-
   rows-all y e = rw e refl
 
 -- a list within the limits
-pub held-area : (P W : Rect) → Holds P W → area P ≤ 16777216
+pub held-area : (P W : Rect) → Holds P W → area P ≤ maxPixels
 unfolding area width height
 held-area P W h = image-product (P .y1 - P .y0) (P .x1 - P .x0) (omega (arith, h .high)) (omega (arith, h .wide))

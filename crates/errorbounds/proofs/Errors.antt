@@ -6,6 +6,7 @@ use mathlib.Core.List.{List}
 use lib.Dec.{lit≤, lit<}
 use lib.ListN.{length, getD}
 use lib.Ieee.{Float}
+use Rattle.base.specs.Limits.{maxPixels}
 use Rattle.base.specs.F64.{f0}
 use Rattle.base.proofs.Bounds.{image-product}
 use Rattle.color.specs.declared.YyCxCz.{YyCxCz}
@@ -115,7 +116,7 @@ module _ (T : Tiling) (G : Scene) (cpp : List Float) (l : Limits T) (f : SceneFi
   abbrev cpe : List Float
   cpe = fieldOf T G cpp
 
-  few-pixels : n ≤ 16777216
+  few-pixels : n ≤ maxPixels
   few-pixels = image-product (T .height) (T .width) (l .height-limit) (l .width-limit)
 
   place-of : (i : ℕ) → i < n → 3 * i + 2 < length cpe

@@ -8,6 +8,7 @@ use borrow.Author.Tests.{not-false, ltb-true}
 use lib.Dec.{T, lt→ltb}
 use lib.Ieee.{Float, nan, inf, fin, up, down, lt, le, mul, div, ofBits}
 use lib.Ieee.Positive.{positive, first-pos}
+use Rattle.base.specs.Limits.{cppChroma}
 use Rattle.base.specs.F64.{_*f_, _/f_, f2}
 use Rattle.base.specs.declared.Status.{Status}
 use Rattle.base.specs.Refusal.{judge, accepted, isAccepted, Passes}
@@ -76,7 +77,7 @@ radii-fit p e =
     (narrow-radius alphaLum p (n .0), narrow-radius alphaChroma p (n .1))
 
 -- a kernel of such a radius has at most 65² values
-pub kernel-fits : (R : ℕ) → KernelRadius R → (2 * R + 1) * (2 * R + 1) ≤ 4225
+pub kernel-fits : (R : ℕ) → KernelRadius R → (2 * R + 1) * (2 * R + 1) ≤ cppChroma
 kernel-fits R h = let s : 2 * R + 1 ≤ 65 = omega arith in product-le (2 * R + 1) (2 * R + 1) 65 65 s s
 
 -- ---- what a caller of `validate` knows by its answer

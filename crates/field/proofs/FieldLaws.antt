@@ -8,6 +8,7 @@ use mathlib.Core.List.{List}
 use lib.ListN.{length}
 use lib.Ieee.{Float, nan}
 use borrow.Rule.Slice.PartMut.{midOf, mid-len}
+use Rattle.base.specs.Limits.{maxRadius, cppChroma}
 use Rattle.base.specs.Loop.{table}
 use Rattle.base.specs.F64.{f0}
 use Rattle.base.proofs.Bounds.{index-lt, image-product, lt-or-ge}
@@ -30,7 +31,7 @@ use Rattle.field.specs.Lines.{channelLines, channelBlock, channelSum, Fi
 -- ---- the kernel of a channel
 
 -- a kernel within its limits
-pub square-most : (r : ℕ) → r ≤ 32 → (2 * r + 1) * (2 * r + 1) ≤ 4225
+pub square-most : (r : ℕ) → r ≤ maxRadius → (2 * r + 1) * (2 * r + 1) ≤ cppChroma
 square-most r h = let e : 2 * r + 1 ≤ 65 = omega (arith, h) in omega (arith, mul-le-mul e e)
 
 pub kernel-fits : (T : Tiling) (G : Scene) (cpp : List Float) (c : ℕ) → FieldFits T G cpp → KernelFits (channelKernel T c) cpp

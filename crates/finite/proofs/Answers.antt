@@ -4,6 +4,7 @@ use mathlib.Core.Path.{_≡_, refl, sym, ap, _∙_}
 use mathlib.Core.List.{List}
 use lib.ListN.{length}
 use lib.Ieee.{Float}
+use Rattle.base.specs.Limits.{cppLength}
 use Rattle.base.specs.Refusal.{judge, accepted}
 use Rattle.color.specs.Inks.{inkValues}
 use Rattle.eye.specs.Constants.{alphaLum, alphaChroma}
@@ -42,7 +43,7 @@ module _ (I : Input) (passes : ℕ) (cpe cpp : List Float) (counts : List ℕ) (
   input-ok : judge (inputTests I) ≡ accepted
   input-ok = valid-iff I .1 (given .valid)
 
-  room : length cpp ≡ 8450
+  room : length cpp ≡ cppLength
   room = given .cpp-length
 
   pub refine-run : RunNumbers I passes cpp

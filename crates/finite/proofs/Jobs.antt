@@ -9,6 +9,7 @@ use mathlib.Core.List.{List, [], _∷_, List·Memᴰ}
 use lib.Dec.{lit≤, eqb}
 use lib.ListN.{length, replicate, length-replicate, getD-replicate}
 use lib.Ieee.{Float, nan}
+use Rattle.base.specs.Limits.{cppLength}
 use Rattle.base.proofs.AnswerLaws.{accepted-is, is-accepted}
 use Rattle.base.specs.declared.Rect.{Rect}
 use Rattle.base.specs.F64.{f0}
@@ -78,7 +79,7 @@ module _ (words : List ℕ) (O : Opening) (ok : openRun words O .status ≡ acce
   input-ok : judge (inputTests I) ≡ accepted
   input-ok = valid-iff I .1 (valid O there .refine .valid)
 
-  room : length (O .cpp) ≡ 8450
+  room : length (O .cpp) ≡ cppLength
   room = valid O there .refine .cpp-length
 
   pub run : RunNumbers I (O .passes) (O .cpp)

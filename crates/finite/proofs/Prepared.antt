@@ -4,6 +4,7 @@ use mathlib.Core.Path.{_≡_}
 use mathlib.Core.List.{List}
 use lib.ListN.{length}
 use lib.Ieee.{Float}
+use Rattle.base.specs.Limits.{cppLength}
 use Rattle.base.specs.Refusal.{judge, accepted}
 use Rattle.base.proofs.Bounds.{index-lt}
 use Rattle.color.specs.declared.YyCxCz.{YyCxCz}
@@ -33,7 +34,7 @@ store-numbers T cpp w = record { lum = kernel-number cpp (lumKernel T) (w .lum);
 pub colour-number : {b k : ℕ} {c : YyCxCz} → ColourWithin b k c → ColourNumbers c
 colour-number w = record { yy = number (w .yy); cx = number (w .cx); cz = number (w .cz) }
 
-module _ (I : Input) (cpp : List Float) (ok : judge (inputTests I) ≡ accepted) (room : length cpp ≡ 8450) where
+module _ (I : Input) (cpp : List Float) (ok : judge (inputTests I) ≡ accepted) (room : length cpp ≡ cppLength) where
   pub inks-are : AllBounded inkExponent 1 (inksOf I)
   unfolding inksOf
   inks-are = inks-within (I .palette)

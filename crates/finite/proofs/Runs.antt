@@ -6,6 +6,7 @@ use mathlib.Core.List.{List}
 use lib.Dec.{lit≤}
 use lib.ListN.{length}
 use lib.Ieee.{Float}
+use Rattle.base.specs.Limits.{maxPasses, cppLength}
 use Rattle.base.specs.declared.Rect.{Rect}
 use Rattle.base.specs.Grid.{area}
 use Rattle.base.specs.Refusal.{judge, accepted}
@@ -57,7 +58,7 @@ module _ (S : Shared) (g : Steady S) (W : Rect) (m : ℕ) (l : m ≤ tileLimit) 
 
 -- ---- the plain walk
 
-module _ (I : Input) (passes : ℕ) (cpp : List Float) (ok : judge (inputTests I) ≡ accepted) (room : length cpp ≡ 8450) (few : passes ≤ 1000) where
+module _ (I : Input) (passes : ℕ) (cpp : List Float) (ok : judge (inputTests I) ≡ accepted) (room : length cpp ≡ cppLength) (few : passes ≤ maxPasses) where
   abbrev S : Shared
   S = sharedOf I cpp
 

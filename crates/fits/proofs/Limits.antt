@@ -7,6 +7,7 @@ use mathlib.Core.Bool.{Bool, true, false, not, _&&_, false≢true}
 use native.Mathlib.Omega.{arith}
 use borrow.Author.Tests.{leb-true, le-leb, eqb-true, eqb-false, eq-eqb, ne-eqb, not-false}
 use lib.Dec.{leb, eqb}
+use Rattle.base.specs.Limits.{maxSide, maxInks}
 use Rattle.fits.specs.Fits.{isWithin, sizeFits, maskFits, paletteFits}
 
 -- a test that passes is one whose opposite holds
@@ -28,8 +29,8 @@ within-iff low x high = Iff·trans (and-iff (leb low x) (leb x high)) (Iff·and 
 
 -- ---- rows 1 to 5, and a line of row 11
 
-pub size-iff : (w h : ℕ) → (not (sizeFits w h) ≡ false) ↔ (((1 ≤ w) × (w ≤ 4096)) × (h ≤ 4096))
-size-iff w h = Iff·trans (passes-iff (sizeFits w h)) (Iff·trans (and-iff (isWithin 1 w 4096) (leb h 4096)) (Iff·and (within-iff 1 w 4096) (leb-iff h 4096)))
+pub size-iff : (w h : ℕ) → (not (sizeFits w h) ≡ false) ↔ (((1 ≤ w) × (w ≤ maxSide)) × (h ≤ maxSide))
+size-iff w h = Iff·trans (passes-iff (sizeFits w h)) (Iff·trans (and-iff (isWithin 1 w maxSide) (leb h maxSide)) (Iff·and (within-iff 1 w maxSide) (leb-iff h maxSide)))
 
 pub length-iff : (len wanted : ℕ) → (not (eqb len wanted) ≡ false) ↔ (len ≡ wanted)
 length-iff len wanted = Iff·trans (passes-iff (eqb len wanted)) (eqb-iff len wanted)
@@ -47,7 +48,7 @@ mask-iff pinned n = Iff·trans (passes-iff (maskFits pinned n)) (to, from (eqb p
     from true e f = rw e
     from false e f = rw e (eq-eqb pinned n (f (omega (arith, eqb-false pinned 0 e))))
 
-pub palette-iff : (palette : ℕ) → (not (paletteFits palette) ≡ false) ↔ ((palette % 3 ≡ 0) × ((1 ≤ palette / 3) × (palette / 3 ≤ 256)))
+pub palette-iff : (palette : ℕ) → (not (paletteFits palette) ≡ false) ↔ ((palette % 3 ≡ 0) × ((1 ≤ palette / 3) × (palette / 3 ≤ maxInks)))
 palette-iff palette =
     Iff·trans (passes-iff (paletteFits palette))
-    (Iff·trans (and-iff (eqb (palette % 3) 0) (isWithin 1 (palette / 3) 256)) (Iff·and (eqb-iff (palette % 3) 0) (within-iff 1 (palette / 3) 256)))
+    (Iff·trans (and-iff (eqb (palette % 3) 0) (isWithin 1 (palette / 3) maxInks)) (Iff·and (eqb-iff (palette % 3) 0) (within-iff 1 (palette / 3) maxInks)))

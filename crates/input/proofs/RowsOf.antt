@@ -8,6 +8,7 @@ use mathlib.Core.List.{List, [], _∷_, _++_}
 use borrow.Author.Tests.{ltb-true}
 use lib.Dec.{ltb}
 use lib.ListN.{length}
+use Rattle.base.specs.Limits.{maxSide, maxInks, maxPasses, cppLength}
 use Rattle.base.specs.Refusal.{Test, test}
 use Rattle.base.specs.Rows.{Row}
 use Rattle.base.proofs.Meanings.{Means, denied, holds, lt, gt, ne, not-and, not-or, unless-passed}
@@ -23,7 +24,7 @@ use Rattle.input.proofs.EyeValidity.{finite-positive-iff}
 
 -- ---- rows 5 and 6
 
-palette-means : (palette : ℕ) → Means (not (paletteFits palette)) ((inks : ℕ) → 1 ≤ inks → inks ≤ 256 → palette ≢ 3 * inks)
+palette-means : (palette : ℕ) → Means (not (paletteFits palette)) ((inks : ℕ) → 1 ≤ inks → inks ≤ maxInks → palette ≢ 3 * inks)
 palette-means palette =
     let i = palette-iff palette in
     record {
@@ -62,7 +63,7 @@ image-rows : (I : Input) {ts : List Test} {rs : List Row} → Decides (maskTest 
     Decides (imageTests (I .width) (I .height) (length (I .pixels)) (length (I .indices)) (length (I .pinned)) ++ ts) (imageRows I ++ rs)
 unfolding imageTests imageRows pixelCount
 image-rows I rest =
-    at-0 (denied (not-and (not-and (gt 1 (I .width)) (gt (I .width) 4096)) (gt (I .height) 4096)))
+    at-0 (denied (not-and (not-and (gt 1 (I .width)) (gt (I .width) maxSide)) (gt (I .height) maxSide)))
     (at-0 (denied (ne (length (I .pixels)) (3 * pixelCount I))) (at-0 (denied (ne (length (I .indices)) (pixelCount I))) rest))
 
 input-rows : (I : Input) {ts : List Test} {rs : List Row} → Decides ts rs → Decides (inputTests I ++ ts) (inputRows I ++ rs)
@@ -76,9 +77,9 @@ module _ (I : Input) (passes cpe cpp counts inks : ℕ) where
   unfolding refineTests refineRunTests runTests refineRows Rises
   refine-rows =
       input-rows I
-      (at-0 (lt 1000 passes)
+      (at-0 (lt maxPasses passes)
       (by-lines
-      (tells (denied (ne cpe (3 * pixelCount I))) (tells (denied (ne cpp 8450)) (tells (denied (ne counts passes)) (tells (denied (ne inks (3 * inkCount I))) told))))
+      (tells (denied (ne cpe (3 * pixelCount I))) (tells (denied (ne cpp cppLength)) (tells (denied (ne counts passes)) (tells (denied (ne inks (3 * inkCount I))) told))))
       (omega arith) decided))
 
 module _ (I : Input) (passes tiles cpe cpp counts states deltas inks : ℕ) where
@@ -86,10 +87,10 @@ module _ (I : Input) (passes tiles cpe cpp counts states deltas inks : ℕ) wher
   unfolding openTests openRunTests runTests openRows Rises
   open-rows =
       input-rows I
-      (at-0 (lt 1000 passes)
+      (at-0 (lt maxPasses passes)
       (by-lines
       (tells (denied (ne cpe (3 * pixelCount I)))
-      (tells (denied (ne cpp 8450))
+      (tells (denied (ne cpp cppLength))
       (tells (denied (ne counts passes))
       (tells (denied (ne states tiles))
       (tells (denied (ne deltas tiles))

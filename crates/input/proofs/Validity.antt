@@ -6,6 +6,7 @@ use mathlib.Core.List.{List, [], _∷_, _++_}
 use native.Mathlib.Omega.{arith}
 use borrow.Author.Tests.{ltb-false, le-ltb}
 use lib.ListN.{length}
+use Rattle.base.specs.Limits.{maxPasses, cppLength}
 use Rattle.base.specs.Refusal.{Test, judge, accepted, Passes}
 use Rattle.base.proofs.RefusalLaws.{Numbered, accepted-of}
 use Rattle.eye.specs.Constants.{alphaLum, alphaChroma}
@@ -70,7 +71,7 @@ module _ (I : Input) (passes cpe cpp counts inks : ℕ) where
   unfolding runTests Passes
   refine-of v p e = record {
     valid = v;
-    passes-most = ltb-false 1000 passes (p .0);
+    passes-most = ltb-false maxPasses passes (p .0);
     cpe-length = length-iff _ _ .0 (p .1 .0);
     cpp-length = length-iff _ _ .0 (p .1 .1 .0);
     counts-length = length-iff _ _ .0 (p .1 .1 .1 .0);
@@ -81,9 +82,9 @@ module _ (I : Input) (passes cpe cpp counts inks : ℕ) where
   unfolding runTests Passes
   of-refine v =
       let cpe-fits = length-iff cpe (3 * pixelCount I) .1 (v .cpe-length) in
-      let cpp-fits = length-iff cpp 8450 .1 (v .cpp-length) in
+      let cpp-fits = length-iff cpp cppLength .1 (v .cpp-length) in
       let counts-fit = length-iff counts passes .1 (v .counts-length) in
-      (le-ltb 1000 passes (v .passes-most), (cpe-fits, (cpp-fits, (counts-fit, tt))))
+      (le-ltb maxPasses passes (v .passes-most), (cpe-fits, (cpp-fits, (counts-fit, tt))))
 
   pub refine-passes : Passes (refineTests I passes cpe cpp counts inks) ↔ ValidRefine I passes cpe cpp counts inks
   unfolding refineTests refineRunTests Passes

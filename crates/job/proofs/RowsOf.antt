@@ -10,6 +10,7 @@ use borrow.Author.Tests.{ltb-true, ltb-false, eqb-true, eqb-false}
 use lib.Dec.{ltb, eqb}
 use lib.ListN.{length, getD}
 use lib.Ieee.{Float}
+use Rattle.base.specs.Limits.{maxSide, maxInks, maxPasses, cppLength}
 use Rattle.base.specs.Grid.{area}
 use Rattle.base.specs.Loop.{upTo}
 use Rattle.base.specs.Refusal.{Test, test}
@@ -44,11 +45,11 @@ unfolding recordTests wrongRecord
 record-tells r more =
     let p = r .plan in
     let T = p .tiling in
-    tells (denied (not-and (not-and (gt 1 (T .width)) (gt (T .width) 4096)) (gt (T .height) 4096)))
-    (tells (denied (not-and (gt 1 (p .inks)) (gt (p .inks) 256)))
+    tells (denied (not-and (not-and (gt 1 (T .width)) (gt (T .width) maxSide)) (gt (T .height) maxSide)))
+    (tells (denied (not-and (gt 1 (p .inks)) (gt (p .inks) maxInks)))
     (tells (radius-means (T .lum))
     (tells (radius-means (T .chroma))
-    (tells (lt 1000 (p .allowed))
+    (tells (lt maxPasses (p .allowed))
     (tells (lt (p .allowed) (r .done))
     (tells (lt 3 (r .phase))
     (tells (and (denied (isnt (r .finished))) (le (p .allowed) (r .done)))
@@ -142,7 +143,7 @@ work-decides words t pinned cpp copy inks =
     (at-0 (denied (ge t (tiles (r .plan .tiling))))
     (at-0 (denied (not-or (ne (length pinned) 0) (ne (length pinned) (pixelsOf r))))
     (by-lines
-    (tells (length-means (length cpp) 8450)
+    (tells (length-means (length cpp) cppLength)
     (tells (length-means (length (copy .cpe)) (3 * area (region (r .plan .tiling) t)))
     (tells (length-means (length (copy .indices)) (area (region (r .plan .tiling) t)))
     (tells (length-means (length inks) (3 * r .plan .inks)) told))))

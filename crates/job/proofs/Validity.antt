@@ -10,6 +10,7 @@ use borrow.Author.Tests.{ltb-true, ltb-false, lt-ltb, le-ltb, leb-true, leb-fals
 use lib.Dec.{leb, ltb, eqb}
 use lib.ListN.{length, getD}
 use lib.Ieee.{Float}
+use Rattle.base.specs.Limits.{maxSide, maxInks, cppLength}
 use Rattle.base.specs.Grid.{area}
 use Rattle.base.specs.Loop.{upTo}
 use Rattle.base.specs.Refusal.{accepted, Passes}
@@ -74,9 +75,9 @@ pub record-of : (r : JobRecord) → Passes (recordTests r) → ValidRecord r
 unfolding recordTests Passes
 record-of r p =
     let T = r .plan .tiling in
-    let size = both (within 1 (T .width) 4096) (leb (T .height) 4096) (not-false _ (p .0)) in
-    let wide = within-of 1 (T .width) 4096 (size .0) in
-    let inks = within-of 1 (r .plan .inks) 256 (not-false _ (p .1 .0)) in
+    let size = both (within 1 (T .width) maxSide) (leb (T .height) maxSide) (not-false _ (p .0)) in
+    let wide = within-of 1 (T .width) maxSide (size .0) in
+    let inks = within-of 1 (r .plan .inks) maxInks (not-false _ (p .1 .0)) in
     record {
       width-least = wide .0;
       width-most = wide .1;
@@ -95,8 +96,8 @@ record-of r p =
 of-record : (r : JobRecord) → ValidRecord r → Passes (recordTests r)
 unfolding recordTests Passes
 of-record r v =
-    let size = ap not (and-true (of-within 1 (r .plan .tiling .width) 4096 (v .width-least) (v .width-most)) (le-leb _ _ (v .height-most))) in
-    let inks = ap not (of-within 1 (r .plan .inks) 256 (v .inks-least) (v .inks-most)) in
+    let size = ap not (and-true (of-within 1 (r .plan .tiling .width) maxSide (v .width-least) (v .width-most)) (le-leb _ _ (v .height-most))) in
+    let inks = ap not (of-within 1 (r .plan .inks) maxInks (v .inks-least) (v .inks-most)) in
     let lum = ap not (of-radius (r .plan .tiling .lum) (v .lum)) in
     let chroma = ap not (of-radius (r .plan .tiling .chroma) (v .chroma)) in
     let allowed = le-ltb _ _ (v .allowed-most) in
@@ -230,7 +231,7 @@ module _ (r : JobRecord) (t : ℕ) (pinned : List ℕ) (cpp : List Float) (copy 
     λ v.
         let tile = ap not (lt-ltb _ _ (v .tile-has)) in
         let mask = ap not (of-mask (length pinned) (pixelsOf r) (v .mask-length)) in
-        let kernels = of-equal (length cpp) 8450 (v .cpp-length) in
+        let kernels = of-equal (length cpp) cppLength (v .cpp-length) in
         let copy-cpe = of-equal (length (copy .cpe)) (3 * area (region (r .plan .tiling) t)) (v .room .cpe-length) in
         let copy-indices = of-equal (length (copy .indices)) (area (region (r .plan .tiling) t)) (v .room .indices-length) in
         let values = of-equal (length inks) (3 * r .plan .inks) (v .inks-length) in

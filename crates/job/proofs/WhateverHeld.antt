@@ -7,6 +7,7 @@ use mathlib.Core.List.{List, [], _∷_}
 use lib.ListN.{length, take}
 use lib.Seq.{take-append-seam}
 use lib.Ieee.{Float}
+use Rattle.base.specs.Limits.{cppLength}
 use Rattle.base.specs.declared.Status.{Status}
 use Rattle.base.specs.Loop.{overwrite}
 use Rattle.base.specs.Refusal.{judge, accepted, isAccepted}
@@ -39,7 +40,7 @@ unfolding overwrite
 stored-counts done counts = take-append-seam done _
 
 module _ (I : Input) (passes : ℕ) (cpp cpp′ : List Float) (counts counts′ : List ℕ) where
-  accepted-alike : judge (inputTests I) ≡ accepted → length cpp ≡ 8450 → length cpp′ ≡ 8450 →
+  accepted-alike : judge (inputTests I) ≡ accepted → length cpp ≡ cppLength → length cpp′ ≡ cppLength →
       RefinesAlike (tilingOf I) (refineAccepted I passes cpp counts) (refineAccepted I passes cpp′ counts′)
   unfolding refineAccepted
   accepted-alike ok room room′ =
@@ -93,10 +94,10 @@ module _ (O O′ : Opening) (k : AskAlike O O′) where
     input-ok : judge (inputTests (O .input)) ≡ accepted
     input-ok = valid-iff (O .input) .1 (valid O ok .refine .valid)
 
-    room : length (O .cpp) ≡ 8450
+    room : length (O .cpp) ≡ cppLength
     room = valid O ok .refine .cpp-length
 
-    room′ : length (O′ .cpp) ≡ 8450
+    room′ : length (O′ .cpp) ≡ cppLength
     room′ = sym (k .cpp) ∙ room
 
     cpe-same : cpeOf (O .input) (O .cpp) ≡ cpeOf (O′ .input) (O′ .cpp)

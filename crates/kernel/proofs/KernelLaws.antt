@@ -6,6 +6,7 @@ use mathlib.Core.List.{List}
 use native.Mathlib.Omega.{arith}
 use lib.ListN.{length, getD}
 use lib.Ieee.{Float, nan}
+use Rattle.base.specs.Limits.{cppChroma, cppLength}
 use Rattle.base.specs.Loop.{overwrite}
 use Rattle.base.specs.Refusal.{judge, accepted}
 use Rattle.base.proofs.Bounds.{product-le}
@@ -18,7 +19,7 @@ use Rattle.blur.specs.Blur.{kernelSide, values}
 use Rattle.kernel.specs.Kernel.{autocorrelation, kernelOf, lumBase, chromaBase, eyeKernels}
 use Rattle.kernel.proofs.OverwriteLaws.{overwrite-in, overwrite-before}
 
-pub kernel-size : (r : ℕ) → r ≤ 16 → values (2 * r) ≤ 4225
+pub kernel-size : (r : ℕ) → r ≤ 16 → values (2 * r) ≤ cppChroma
 kernel-size r h = let s : kernelSide (2 * r) ≤ 65 = omega arith in product-le (kernelSide (2 * r)) (kernelSide (2 * r)) 65 65 s s
 
 pub length-kernel : (sigma : Float) → length (kernelOf sigma) ≡ values (2 * blurRadius sigma)
@@ -27,7 +28,7 @@ length-kernel sigma = length-table _ _
 
 -- ---- the store of an accepted eye
 
-module _ (p : DbsParams) (cpp : List Float) (ok : judge (eyeTests p) ≡ accepted) (room : length cpp ≡ 8450) where
+module _ (p : DbsParams) (cpp : List Float) (ok : judge (eyeTests p) ≡ accepted) (room : length cpp ≡ cppLength) where
   abbrev kernel : Float → List Float
   kernel alpha = kernelOf (sigmaPx alpha p)
 
@@ -35,13 +36,13 @@ module _ (p : DbsParams) (cpp : List Float) (ok : judge (eyeTests p) ≡ accepte
   unfolding kernelRadius
   length-eyeKernel alpha = length-kernel (sigmaPx alpha p)
 
-  fits : (alpha : Float) → KernelRadius (kernelRadius alpha p) → length (kernel alpha) ≤ 4225
+  fits : (alpha : Float) → KernelRadius (kernelRadius alpha p) → length (kernel alpha) ≤ cppChroma
   fits alpha h = rw (length-eyeKernel alpha) (kernel-fits _ h)
 
-  lum-written : length (overwrite lumBase (kernel alphaLum) cpp) ≡ 8450
+  lum-written : length (overwrite lumBase (kernel alphaLum) cpp) ≡ cppLength
   lum-written = length-overwrite lumBase (kernel alphaLum) cpp (omega (arith, fits alphaLum (radii-fit p ok .0), room)) ∙ room
 
-  pub length-eyeKernels : length (eyeKernels p cpp) ≡ 8450
+  pub length-eyeKernels : length (eyeKernels p cpp) ≡ cppLength
   unfolding eyeKernels
   length-eyeKernels = length-overwrite chromaBase (kernel alphaChroma) _ (omega (arith, fits alphaChroma (radii-fit p ok .1), lum-written)) ∙ lum-written
 

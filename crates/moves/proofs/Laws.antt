@@ -4,6 +4,7 @@ use native.Mathlib.Omega.{arith}
 use mathlib.Core.List.{List}
 use lib.ListN.{length}
 use lib.Ieee.{Float}
+use Rattle.base.specs.Limits.{maxSide, maxInks}
 use Rattle.base.specs.declared.Rect.{Rect}
 use Rattle.base.specs.Grid.{Inside, place, cell}
 use Rattle.base.proofs.GridLaws.{place-lt}
@@ -13,7 +14,7 @@ use Rattle.search.proofs.Laws.{window-limits}
 use Rattle.moves.specs.Moves.{Writable}
 
 module _ {T : Tiling} {W : Rect} {inks cpp : List Float} {l : ℕ} {indices : List ℕ} (r : Writable T W inks cpp l indices) where
-  pub window-limit : (W .x1 ≤ 4096) × (W .y1 ≤ 4096)
+  pub window-limit : (W .x1 ≤ maxSide) × (W .y1 ≤ maxSide)
   window-limit = window-limits T W (r .limits) (r .within)
 
   -- the pixel's index names an ink, so it is a byte
@@ -21,5 +22,5 @@ module _ {T : Tiling} {W : Rect} {inks cpp : List Float} {l : ℕ} {indices : Li
   unfolding cell
   named-ink x y h = r .named (place 1 W x y 0) (omega (arith, r .indices-room, place-lt 1 W x y 0 h (omega arith)))
 
-  pub small-index : (x y : ℕ) → Inside W x y → indexAt W indices x y < 256
+  pub small-index : (x y : ℕ) → Inside W x y → indexAt W indices x y < maxInks
   small-index x y h = omega (arith, named-ink x y h, r .inks-room)

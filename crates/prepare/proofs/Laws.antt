@@ -7,6 +7,7 @@ use mathlib.Core.Path.{_≡_, sym, ap, _∙_}
 use mathlib.Core.List.{List}
 use lib.ListN.{length}
 use lib.Ieee.{Float}
+use Rattle.base.specs.Limits.{cppLength}
 use Rattle.base.specs.Grid.{area, width, height}
 use Rattle.base.specs.Refusal.{judge, accepted}
 use Rattle.base.proofs.RefusalLaws.{accepted-of, passes-of}
@@ -70,12 +71,12 @@ module _ (I : Input) (ok : judge (inputTests I) ≡ accepted) where
     named = λ i h. omega (arith, valid .named i (omega (arith, valid .indices-length)), inks-length);
   }
 
-  pub cpp-length : (cpp : List Float) → length cpp ≡ 8450 → length (cppOf I cpp) ≡ 8450
+  pub cpp-length : (cpp : List Float) → length cpp ≡ cppLength → length (cppOf I cpp) ≡ cppLength
   unfolding cppOf
   cpp-length cpp e = length-eyeKernels (I .params) cpp eye-ok e
 
   -- the walk can start from the field and the starting indices
-  pub start-ready : (cpp : List Float) → length cpp ≡ 8450 → Ready (sharedOf I cpp) (image (tilingOf I)) (length (cpeOf I cpp)) (I .indices)
+  pub start-ready : (cpp : List Float) → length cpp ≡ cppLength → Ready (sharedOf I cpp) (image (tilingOf I)) (length (cpeOf I cpp)) (I .indices)
   unfolding sharedOf tilingOf cpeOf fieldOf image pixelCount
   start-ready cpp e =
       let r = radii-fit (I .params) eye-ok in
@@ -115,6 +116,6 @@ module _ (I : Input) (T : Tiling) (inks cpp₀ cpp : List Float) (t : T ≡ tili
   unfolding sceneOf inksOf
   scene-fits-as ok = rw (t, i) (scene-fits I ok)
 
-  pub field-fits : judge (inputTests I) ≡ accepted → length cpp₀ ≡ 8450 → FieldFits T (scene (I .pixels) (I .indices) (I .pinned) inks) cpp
+  pub field-fits : judge (inputTests I) ≡ accepted → length cpp₀ ≡ cppLength → FieldFits T (scene (I .pixels) (I .indices) (I .pinned) inks) cpp
   unfolding cppOf
   field-fits ok e = record { limits = rw t (limits I ok); scene = scene-fits-as ok; store = rw k (cpp-length I ok cpp₀ e) }

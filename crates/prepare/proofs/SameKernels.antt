@@ -8,6 +8,7 @@ use mathlib.Core.List.{List}
 use lib.Dec.{eqb}
 use lib.ListN.{length}
 use lib.Ieee.{Float}
+use Rattle.base.specs.Limits.{cppLength}
 use Rattle.base.specs.declared.Rect.{Rect}
 use Rattle.base.specs.F64.{_+f_, _*f_}
 use Rattle.base.specs.Grid.{place}
@@ -173,7 +174,7 @@ module _ (T : Tiling) (cpp cpp′ : List Float) (e : SameKernels T cpp cpp′) w
 
 -- ---- what was lent to an accepted input does not show
 
-module _ (I : Input) (ok : judge (inputTests I) ≡ accepted) (cpp cpp′ : List Float) (room : length cpp ≡ 8450) (room′ : length cpp′ ≡ 8450) where
+module _ (I : Input) (ok : judge (inputTests I) ≡ accepted) (cpp cpp′ : List Float) (room : length cpp ≡ cppLength) (room′ : length cpp′ ≡ cppLength) where
   pub same-kernels : SameKernels (tilingOf I) (cppOf I cpp) (cppOf I cpp′)
   unfolding tilingOf cppOf kernelAt
   same-kernels =

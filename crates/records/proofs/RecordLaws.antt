@@ -4,6 +4,7 @@ use native.Mathlib.Omega.{arith}
 use mathlib.Core.Path.{_≡_, sym, ap, _∙_}
 use mathlib.Core.Bool.{not}
 use mathlib.Core.List.{List, [], _∷_, _++_}
+use Rattle.base.specs.Limits.{maxPixels}
 use Rattle.base.specs.declared.Status.{Status}
 use Rattle.base.specs.Refusal.{Test, test, judge, accepted, judgeFrom, Passes}
 use Rattle.base.proofs.Bounds.{image-product}
@@ -28,7 +29,7 @@ limits-of r v = record {
   chroma-limit = v .chroma .high;
 }
 
-pub few-pixels : (r : JobRecord) → ValidRecord r → pixelsOf r ≤ 16777216
+pub few-pixels : (r : JobRecord) → ValidRecord r → pixelsOf r ≤ maxPixels
 unfolding pixelsOf
 few-pixels r v = image-product (r .plan .tiling .height) (r .plan .tiling .width) (v .height-most) (v .width-most)
 

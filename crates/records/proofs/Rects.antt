@@ -1,6 +1,7 @@
 -- The sides of a tile and of its region are in order and within the limits. Assumes nothing.
 use Prim.Native.Nat.{ℕ, _≤_, _<_}
 use native.Mathlib.Omega.{arith}
+use Rattle.base.specs.Limits.{maxSide}
 use Rattle.base.specs.declared.Rect.{Rect}
 use Rattle.base.specs.Grid.{Within}
 use Rattle.tiling.specs.declared.Tiling.{Tiling}
@@ -8,7 +9,7 @@ use Rattle.tiling.specs.Tiling.{Limits, image, tiles, tile, region}
 use Rattle.tiling.proofs.TilingLaws.{tile-some, tile-within, region-within, tile-in-region}
 
 abbrev Sides : Rect → Type 0
-Sides r = ((r .x0 ≤ r .x1) × (r .x1 ≤ 4096)) × ((r .y0 ≤ r .y1) × (r .y1 ≤ 4096))
+Sides r = ((r .x0 ≤ r .x1) × (r .x1 ≤ maxSide)) × ((r .y0 ≤ r .y1) × (r .y1 ≤ maxSide))
 
 module _ (T : Tiling) (h : Limits T) (t : ℕ) (q : t < tiles T) where
   sides : (W : Rect) → Within (image T) W → Within W (tile T t) → Sides W

@@ -6,6 +6,7 @@ use mathlib.Core.Bool.{true}
 use mathlib.Core.List.{List}
 use lib.ListN.{length}
 use lib.Ieee.{Float}
+use Rattle.base.specs.Limits.{cppLength}
 use Rattle.base.specs.F64.{f0}
 use Rattle.base.specs.Grid.{Inside}
 use Rattle.base.specs.Refusal.{accepted}
@@ -45,7 +46,7 @@ pub record Kept (I : Input) (indices : List ℕ) : Type 0 where
   pub named : Named indices (inkCount I)
   pub pins : (x y : ℕ) → Inside (image (tilingOf I)) x y → pinnedAt (I .pinned) (I .width) x y ≡ true → indexAt (image (tilingOf I)) indices x y ≡ indexAt (image (tilingOf I)) (I .indices) x y
 
-pub run-kept : (I : Input) (passes : ℕ) (cpp : List Float) → Valid I → length cpp ≡ 8450 → (n : ℕ) → Kept I (runOne I passes cpp n .now .indices)
+pub run-kept : (I : Input) (passes : ℕ) (cpp : List Float) → Valid I → length cpp ≡ cppLength → (n : ℕ) → Kept I (runOne I passes cpp n .now .indices)
 unfolding runOne sharedOf tilingOf
 run-kept I passes cpp v e n =
     let r = start-ready I (valid-iff I .1 v) cpp e in

@@ -8,7 +8,7 @@ use lib.Ieee.{Float, nan}
 use Rattle.base.specs.declared.Rect.{Rect}
 use Rattle.base.specs.Loop.{upTo, fromTo}
 use Rattle.base.specs.Grid.{area, width, height, place}
-use Rattle.base.specs.Limits.{maxPixels, maxRadius, cppChroma}
+use Rattle.base.specs.Limits.{maxPixels, maxRadius, cppChroma, maxSide}
 use Rattle.base.proofs.Bounds.{index-le, product-le}
 use Rattle.base.proofs.LoopLaws.{fromTo-keeps, upTo-same}
 use Rattle.color.specs.declared.YyCxCz.{YyCxCz}
@@ -83,7 +83,7 @@ module _ (k : Kernel2D) (W : Rect) (m : Source) (C : Rect) (y : ℕ) (p : Part k
 
   window-le : 3 * area W ≤ 3 * maxPixels
   unfolding area width height
-  window-le = omega (arith, product-le (W .y1 - W .y0) (W .x1 - W .x0) 4096 4096 (omega (arith, p .bottom-limit)) (omega (arith, p .right-limit)))
+  window-le = omega (arith, product-le (W .y1 - W .y0) (W .x1 - W .x0) maxSide maxSide (omega (arith, p .bottom-limit)) (omega (arith, p .right-limit)))
 
   cpp-end-le : kernelPlace k (C .x0 + k .radius - m .x) (y + k .radius - m .y) + (C .x1 - C .x0) ≤ k .from + cppChroma
   cpp-end-le =

@@ -5,6 +5,7 @@ use native.Mathlib.Omega.{arith}
 use native.Mathlib.Nat.{mul-le-mul-right, div-mul-le-self, lt-div-mul-add, div-lt-iff-lt-mul, div-eq-of-lt-le, zero-div, zero-mul}
 use native.Mathlib.Decide.{ℕ-discrete, decLt}
 use mathlib.Core.Path.{_≡_, sym}
+use Rattle.base.specs.Limits.{maxSide}
 use Rattle.base.specs.Loop.{upTo}
 
 -- how many tiles there are: `columns` and `rows`
@@ -87,7 +88,7 @@ lengths-sum w s p = omega (arith, lengths w s (count w s), reaches w s p)
 pub count-some : (w s : ℕ) → 0 < s → 1 ≤ w → 1 ≤ count w s
 count-some w s p h = omega (arith, holder-below w s 0 p h, zero-div s)
 
-pub count-limit : (w s : ℕ) → 64 ≤ s → w ≤ 4096 → count w s ≤ 64
+pub count-limit : (w s : ℕ) → 64 ≤ s → w ≤ maxSide → count w s ≤ 64
 count-limit w s k h =
     let p : 0 < s = omega arith in
     let q : count w s < 65 = (div-lt-iff-lt-mul p) .1 (omega arith) in

@@ -1,6 +1,7 @@
 -- How large it all gets within the limits: the larger radius is at most 32, so the margin is at most 33 and the side 64 to 67. Assumes nothing.
 use Prim.Native.Nat.{ℕ, _*_, _≤_, _<_}
 use native.Mathlib.Omega.{arith}
+use Rattle.base.specs.Limits.{maxSide}
 use Rattle.base.specs.Grid.{width, height, area}
 use Rattle.base.proofs.Bounds.{product-le}
 use Rattle.tiling.specs.declared.Tiling.{Tiling}
@@ -61,11 +62,11 @@ module _ (T : Tiling) (l : Limits T) where
         (omega (arith, region-length (T .width) (tileX T t * side T) (side T) (margin T)))
 
     -- the corners of a tile
-    pub tile-limit : t < tiles T → (tile T t .x0 < 4096) × (tile T t .y0 < 4096) × (tile T t .x1 ≤ 4096) × (tile T t .y1 ≤ 4096)
+    pub tile-limit : t < tiles T → (tile T t .x0 < maxSide) × (tile T t .y0 < maxSide) × (tile T t .x1 ≤ maxSide) × (tile T t .y1 ≤ maxSide)
     unfolding image
     tile-limit h =
         let s = tile-some T t h in
         let w = tile-within T t in
-        let x : tile T t .x1 ≤ 4096 = omega (arith, w .right, l .width-limit) in
-        let y : tile T t .y1 ≤ 4096 = omega (arith, w .bottom, l .height-limit) in
+        let x : tile T t .x1 ≤ maxSide = omega (arith, w .right, l .width-limit) in
+        let y : tile T t .y1 ≤ maxSide = omega (arith, w .bottom, l .height-limit) in
         (omega (arith, s .0), omega (arith, s .1), x, y)

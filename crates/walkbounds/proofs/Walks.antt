@@ -8,6 +8,7 @@ use mathlib.Core.Bool.{Bool, true, false, cond}
 use mathlib.Core.List.{List}
 use lib.Dec.{lit≤, eqb}
 use lib.Ieee.{Float}
+use Rattle.base.specs.Limits.{maxPasses}
 use Rattle.base.specs.declared.Rect.{Rect}
 use Rattle.base.specs.Grid.{area, Inside}
 use Rattle.base.specs.Loop.{upTo}
@@ -123,7 +124,7 @@ module _ (S : Shared) (g : Steady S) (i₀ : List ℕ) where
       go false true = record { sound = r .sound; cpe = r .cpe; error = r .error }
       go false false = r
 
-  module _ (passes : ℕ) (few-passes : passes ≤ 1000) (cpe : List Float) (indices : List ℕ) (error : Float) where
+  module _ (passes : ℕ) (few-passes : passes ≤ maxPasses) (cpe : List Float) (indices : List ℕ) (error : Float) where
     abbrev at : ℕ → Walk
     at n = walkAt S passes (walkStart passes cpe indices error) n
 

@@ -2,12 +2,13 @@
 use Prim.Native.Nat.{_+_, _-_, _*_, _≤_}
 use native.Mathlib.Omega.{arith}
 use borrow.Author.Needs.{needs}
+use Rattle.base.specs.Limits.{maxPixels}
 use Rattle.base.specs.Grid.{place, width}
 use Rattle.base.proofs.Bounds.{image-product, product-le}
 use Rattle.base.proofs.place.Statement.{statement}
 use Rattle.base.proofs.place.Tie as tie
 
-small : (s : tie.Start) → (s .args .y - s .args .w .y0) * (s .args .w .x1 - s .args .w .x0) ≤ 16777216
+small : (s : tie.Start) → (s .args .y - s .args .w .y0) * (s .args .w .x1 - s .args .w .x0) ≤ maxPixels
 small s = image-product (s .args .y - s .args .w .y0) (s .args .w .x1 - s .args .w .x0) (omega arith) (omega arith)
 
 sub-result : tie.Need-sub-result

@@ -4,6 +4,7 @@ use Prim.Native.Nat.{_+_, _*_, _-_, _≤_}
 use native.Mathlib.Omega.{arith}
 use borrow.Author.Needs.{needs}
 use lib.ListN.{length}
+use Rattle.base.specs.Limits.{maxPixels}
 use Rattle.base.specs.Grid.{width}
 use Rattle.base.proofs.GridLaws.{length-paste}
 use Rattle.copy.proofs.RowLaws.{copied, row-room, turn, rows-none, rows-all, held-area}
@@ -24,7 +25,7 @@ begun c = let earlier = c .before .before .before .before .before in earlier .be
 -- both rows lie in their lists
 from-room : (c : tie.After-place2 Inv-loop μ-loop) →
     (c .before .place .result + 1 * width (begun c .args .w) ≤ length (begun c .args .from .now))
-    × (length (begun c .args .from .now) ≤ 16777216)
+    × (length (begun c .args .from .now) ≤ maxPixels)
 from-room c =
     let earlier = c .before .before .before .before .before in
     let s = earlier .before .before .before in
@@ -35,7 +36,7 @@ from-room c =
 
 to-room : (c : tie.After-place2 Inv-loop μ-loop) →
     (c .place2 .result + 1 * width (begun c .args .w) ≤ length (c .before .before .before .before .loop .to))
-    × (length (c .before .before .before .before .loop .to) ≤ 16777216)
+    × (length (c .before .before .before .before .loop .to) ≤ maxPixels)
 to-room c =
     let earlier = c .before .before .before .before .before in
     let s = earlier .before .before .before in

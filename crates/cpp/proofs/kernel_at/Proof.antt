@@ -2,12 +2,13 @@
 use Prim.Native.Nat.{ℕ, _+_, _*_, _<_}
 use native.Mathlib.Omega.{arith}
 use borrow.Author.Needs.{needs}
+use Rattle.base.specs.Limits.{cppChroma}
 use Rattle.cpp.specs.Kernel.{kernelAt}
 use Rattle.cpp.proofs.Laws.{kernel-lt}
 use Rattle.cpp.proofs.kernel_at.Statement.{statement}
 use Rattle.cpp.proofs.kernel_at.Tie as tie
 
-below : (s : tie.Start) → s .args .j * (2 * s .args .k .radius + 1) + s .args .i < 4225
+below : (s : tie.Start) → s .args .j * (2 * s .args .k .radius + 1) + s .args .i < cppChroma
 below s = kernel-lt (s .args .k .radius) (s .args .i) (s .args .j) (s .pre .0 .most) (s .pre .1 .0) (s .pre .1 .1)
 
 mul-at : tie.Need-mul-at

@@ -4,6 +4,7 @@ use mathlib.Core.Path.{_≡_, sym, ap, _∙_}
 use mathlib.Core.Bool.{not}
 use mathlib.Core.List.{[], _∷_}
 use native.Mathlib.Omega.{arith}
+use Rattle.base.specs.Limits.{maxPixels}
 use Rattle.base.specs.declared.Status.{Status}
 use Rattle.base.specs.Refusal.{test, next, Passes}
 use Rattle.base.proofs.Bounds.{image-product}
@@ -19,7 +20,7 @@ use Rattle.input.proofs.check_image.Tie as tie
 first : (c : tie.After-next) → let a = c .before .before .args in c .next .result ≡ next (a .s) (test (not (sizeFits (a .width) (a .height))) 1 0)
 first c = rw (c .next .ensures, c .before .is-size .ensures)
 
-product : (c : tie.Else1) → c .before .before .before .before .args .height * c .before .before .before .before .args .width ≤ 16777216
+product : (c : tie.Else1) → c .before .before .before .before .args .height * c .before .before .before .before .args .width ≤ maxPixels
 unfolding Numbered Passes
 product c =
     let a = c .before .before .before .before .args in

@@ -6,6 +6,7 @@ use native.Mathlib.Omega.{arith}
 use borrow.Author.Needs.{needs}
 use borrow.Rule.Slice.PartMut.{putMid}
 use lib.Seq.{length-take-le}
+use Rattle.base.specs.Limits.{cppChroma}
 use Rattle.blur.specs.Blur.{values}
 use Rattle.kernel.specs.Kernel.{kernelOf}
 use Rattle.kernel.proofs.OverwriteLaws.{part-length, part-overwritten}
@@ -15,7 +16,7 @@ use Rattle.kernel.proofs.place_kernel.Statement.{statement}
 use Rattle.kernel.proofs.place_kernel.Tie as tie
 
 -- the blur and the kernel have room
-room : (c : tie.After-blur-radius) → let r = c .blur-radius .result in (values r ≤ 1089) × (values (2 * r) ≤ 4225)
+room : (c : tie.After-blur-radius) → let r = c .blur-radius .result in (values r ≤ 1089) × (values (2 * r) ≤ cppChroma)
 room c = (blur-size _ (c .blur-radius .ensures .1), kernel-size _ (c .blur-radius .ensures .1))
 
 blur-radius-requires : tie.Need-blur-radius-requires
