@@ -3,7 +3,7 @@ use Prim.Native.Nat.{ℕ, _*_, _%_}
 use native.Mathlib.Omega.{arith}
 use native.Mathlib.Nat.{mul-mod-right}
 use native.Mathlib.Numerals.{unary-clauses}
-use mathlib.Core.Path.{_≡_, sym, ap, _∙_}
+use mathlib.Core.Path.{_≡_, refl, sym, ap, _∙_}
 use mathlib.Core.List.{List}
 use lib.ListN.{length}
 use lib.Ieee.{Float}
@@ -22,13 +22,14 @@ use Rattle.kernel.specs.Kernel.{eyeKernels}
 use Rattle.kernel.proofs.KernelLaws.{length-eyeKernels}
 use Rattle.error.specs.Error.{Scene, scene, SceneFits, initialError}
 use Rattle.field.specs.Field.{FieldFits, fieldOf}
-use Rattle.input.specs.Input.{Input, pixelCount, inkCount, inputTests, imageTests, inkTests}
-use Rattle.input.specs.Valid.{Valid}
+use Rattle.input.specs.Input.{Input, input, pixelCount, inkCount, inputTests, imageTests, inkTests}
+use Rattle.input.specs.Valid.{Valid, ValidRefine}
 use Rattle.input.proofs.InputLaws.{input-numbered}
 use Rattle.base.proofs.JudgeLaws.{passes-append}
 use Rattle.input.proofs.Validity.{valid-iff}
+use Rattle.sizes.proofs.Laws.{tiling-limits}
 use Rattle.search.specs.Shared.{Ready}
-use Rattle.prepare.specs.Prepare.{tilingOf, inksOf, cppOf, sceneOf, cpeOf, errorOf, sharedOf}
+use Rattle.prepare.specs.Prepare.{tilingOf, inksOf, cppOf, sceneOf, cpeOf, errorOf, sharedOf, ReadyToPrepare}
 
 -- all pixels of the image
 pub image-area : (T : Tiling) → area (image T) ≡ T .height * T .width
@@ -50,10 +51,7 @@ module _ (I : Input) (ok : judge (inputTests I) ≡ accepted) where
   palette-whole = ap (λ (n : ℕ). n % 3) (valid .palette-length) ∙ mul-mod-right 3 (inkCount I)
 
   pub limits : Limits (tilingOf I)
-  unfolding tilingOf
-  limits =
-      let r = radii-fit (I .params) eye-ok in
-      record { wide = valid .width-least; width-limit = valid .width-most; height-limit = valid .height-most; lum-limit = r .0 .high; chroma-limit = r .1 .high }
+  limits = tiling-limits I valid
 
   pub inks-length : length (inksOf I) ≡ 3 * inkCount I
   unfolding inksOf
@@ -119,3 +117,15 @@ module _ (I : Input) (T : Tiling) (inks cpp₀ cpp : List Float) (t : T ≡ tili
   pub field-fits : judge (inputTests I) ≡ accepted → length cpp₀ ≡ cppLength → FieldFits T (scene (I .pixels) (I .indices) (I .pinned) inks) cpp
   unfolding cppOf
   field-fits ok e = record { limits = rw t (limits I ok); scene = scene-fits-as ok; store = rw k (cpp-length I ok cpp₀ e) }
+
+-- ---- what `prepare` asks for
+
+-- the input as a tiling has its size
+abbrev pub sized : Input → Tiling → Input
+sized I T = input (T .width) (T .height) (I .pixels) (I .palette) (I .indices) (I .pinned) (I .params)
+
+-- a valid input with its tiling
+pub ready-to-prepare : (I : Input) (T : Tiling) (passes cpe cpp counts inks : ℕ) → T ≡ tilingOf I → ValidRefine I passes cpe cpp counts inks → ReadyToPrepare (sized I T) T inks cpp cpe
+unfolding tilingOf
+ready-to-prepare I T passes cpe cpp counts inks t v =
+    rw t (record { passes = valid-iff I .1 (v .valid); tiling = refl; inks-length = v .inks-length; cpp-length = v .cpp-length; cpe-length = v .cpe-length })

@@ -8,13 +8,14 @@ use Rattle.base.specs.declared.Status.{Status}
 use Rattle.base.specs.Refusal.{judge, judgeFrom, accepted}
 use Rattle.base.proofs.JudgeLaws.{judge-zero}
 use Rattle.base.proofs.AnswerLaws.{Answers, answers}
-use Rattle.input.specs.Input.{Input, input, refineRunTests, refineTests}
+use Rattle.input.specs.Input.{Input, refineRunTests, refineTests}
 use Rattle.input.specs.Valid.{ValidRefine}
-use Rattle.input.proofs.Validity.{valid-iff, refine-numbered, refine-valid-iff}
+use Rattle.input.proofs.Validity.{refine-numbered, refine-valid-iff}
 use Rattle.sizes.specs.declared.Sizes.{Sizes}
 use Rattle.sizes.specs.Sizes.{sizesOf}
 use Rattle.sizes.proofs.Laws.{refine-verdict, tiling-is}
 use Rattle.prepare.specs.Prepare.{ReadyToPrepare, tilingOf}
+use Rattle.prepare.proofs.Laws.{sized, ready-to-prepare}
 use Rattle.refine.specs.Refine.{refinement, refineStatus, refusedStats, refineAccepted, refineOf}
 
 module _ (I : Input) (passes : ℕ) (cpe cpp : List Float) (counts : List ℕ) (inks : List Float) where
@@ -43,17 +44,12 @@ module _ (I : Input) (passes : ℕ) (cpe cpp : List Float) (counts : List ℕ) (
       valid : ValidRefine I passes (length cpe) (length cpp) (length counts) (length inks)
       valid = refine-valid-iff I passes (length cpe) (length cpp) (length counts) (length inks) .0 passed
 
-      -- the input as the tiling has its size
-      abbrev same : Input
-      same = input (S .tiling .width) (S .tiling .height) (I .pixels) (I .palette) (I .indices) (I .pinned) (I .params)
+      tiling : S .tiling ≡ tilingOf I
+      tiling = tiling-is I S q (valid .valid)
 
-      pub ready : ReadyToPrepare same (S .tiling) (length inks) (length cpp) (length cpe)
-      unfolding tilingOf
-      ready =
-          let v = valid in
-          rw (tiling-is I S q (v .valid))
-          (record { passes = valid-iff I .1 (v .valid); tiling = refl; inks-length = v .inks-length; cpp-length = v .cpp-length; cpe-length = v .cpe-length })
+      pub ready : ReadyToPrepare (sized I (S .tiling)) (S .tiling) (length inks) (length cpp) (length cpe)
+      ready = ready-to-prepare I (S .tiling) passes (length cpe) (length cpp) (length counts) (length inks) tiling valid
 
-      pub accepted-is : refineAccepted same (length counts) cpp counts ≡ refineOf I passes cpe cpp counts inks
+      pub accepted-is : refineAccepted (sized I (S .tiling)) (length counts) cpp counts ≡ refineOf I passes cpe cpp counts inks
       unfolding tilingOf
-      accepted-is = rw (tiling-is I S q (valid .valid), valid .counts-length) (sym (refine-answers .leaves passed))
+      accepted-is = rw (tiling, valid .counts-length) (sym (refine-answers .leaves passed))

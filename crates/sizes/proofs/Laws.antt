@@ -28,6 +28,13 @@ sizes-answers : (I : Input) → Answers (λ (S : Sizes). S .status) (judge (inpu
 unfolding sizesOf
 sizes-answers I = answers (λ (S : Sizes). S .status) noSizes (λ s. refl) (judge (inputTests I)) (λ s. sizes s (tilingOf I) (tiles (tilingOf I)) (3 * pixelCount I) (3 * inkCount I)) refl
 
+-- the tiling of a valid input
+pub tiling-limits : (I : Input) → Valid I → Limits (tilingOf I)
+unfolding tilingOf
+tiling-limits I v =
+    let r = valid-radii I v in
+    record { wide = v .width-least; width-limit = v .width-most; height-limit = v .height-most; lum-limit = r .0 .high; chroma-limit = r .1 .high }
+
 -- ---- what the code makes of the eye that it found
 
 abbrev pub tilingBy : Input → Eye → Tiling
@@ -54,12 +61,8 @@ module _ (I : Input) (e : Eye) (q : e ≡ checkedOf I) where
     unfolding tilingOf
     tiling-found = rw (q ∙ checked-radii I passed)
 
-    -- the size and the radii are within the limits of a tiling
     pub limits : Limits (tilingBy I e)
-    unfolding tilingOf
-    limits =
-        let r = valid-radii I valid in
-        rw tiling-found (record { wide = valid .width-least; width-limit = valid .width-most; height-limit = valid .height-most; lum-limit = r .0 .high; chroma-limit = r .1 .high })
+    limits = rw tiling-found (tiling-limits I valid)
 
     pub all-of : sizes (e .status) (tilingBy I e) (tiles (tilingBy I e)) (3 * pixelCount I) (3 * inkCount I) ≡ sizesOf I
     all-of = rw (tiling-found, found ∙ passed) (sym (sizes-answers I .leaves passed))

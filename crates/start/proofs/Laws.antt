@@ -1,6 +1,6 @@
 -- What the code makes, step by step, is what `openOf` says. Assumes nothing.
 use Prim.Native.Nat.{ℕ, _/_}
-use mathlib.Core.Path.{_≡_, refl}
+use mathlib.Core.Path.{_≡_}
 use mathlib.Core.List.{List}
 use lib.Dec.{eqb}
 use lib.ListN.{length, replicate}
@@ -9,13 +9,14 @@ use Rattle.base.specs.declared.Status.{Status}
 use Rattle.base.specs.F64.{f0}
 use Rattle.base.specs.Refusal.{judge, judgeFrom}
 use Rattle.tiling.specs.Tiling.{tiles}
-use Rattle.input.specs.Input.{Input, input, inkCount, openRunTests}
+use Rattle.input.specs.Input.{inkCount, openRunTests}
 use Rattle.input.specs.Valid.{ValidOpen}
-use Rattle.input.proofs.Validity.{valid-iff, open-passes}
+use Rattle.input.proofs.Validity.{open-passes}
 use Rattle.sizes.specs.declared.Sizes.{Sizes}
 use Rattle.sizes.specs.Sizes.{sizesOf}
 use Rattle.sizes.proofs.Laws.{open-verdict, tiling-is}
 use Rattle.prepare.specs.Prepare.{ReadyToPrepare, Prepared, tilingOf}
+use Rattle.prepare.proofs.Laws.{sized, ready-to-prepare}
 use Rattle.job.specs.Record.{plan, jobRecord}
 use Rattle.job.specs.Open.{Opening, opened, openTestsOf, firstRecord, openOf}
 use Rattle.job.proofs.Answers.{open-answers}
@@ -32,21 +33,14 @@ module _ (O : Opening) (S : Sizes) (q : S ≡ sizesOf (O .input)) (r : Status)
     unfolding openTestsOf
     valid-open = open-passes _ _ _ _ _ _ _ _ _ .0 (open-answers O .passed r verdict z)
 
-    -- the input as the tiling has its size
-    abbrev same : Input
-    same = let I = O .input in input (S .tiling .width) (S .tiling .height) (I .pixels) (I .palette) (I .indices) (I .pinned) (I .params)
-
     found : S .tiling ≡ tilingOf (O .input)
     found = tiling-is (O .input) S q (valid-open .refine .valid)
 
-    pub ready : ReadyToPrepare same (S .tiling) (length (O .inks)) (length (O .cpp)) (length (O .cpe))
-    unfolding tilingOf
-    ready =
-        let v = valid-open .refine in
-        rw found (record { passes = valid-iff (O .input) .1 (v .valid); tiling = refl; inks-length = v .inks-length; cpp-length = v .cpp-length; cpe-length = v .cpe-length })
+    pub ready : ReadyToPrepare (sized (O .input) (S .tiling)) (S .tiling) (length (O .inks)) (length (O .cpp)) (length (O .cpe))
+    ready = ready-to-prepare (O .input) (S .tiling) (O .passes) (length (O .cpe)) (length (O .cpp)) (length (O .counts)) (length (O .inks)) found (valid-open .refine)
 
     pub opens-as : (inks cpp cpe : List Float) (error : Float) (states : List ℕ) (deltas : List Float) →
-        Prepared same (O .cpp) inks cpp cpe error → states ≡ replicate (length (O .states)) 0 → deltas ≡ replicate (length (O .deltas)) f0 →
+        Prepared (sized (O .input) (S .tiling)) (O .cpp) inks cpp cpe error → states ≡ replicate (length (O .states)) 0 → deltas ≡ replicate (length (O .deltas)) f0 →
         opened r (jobRecord (plan (S .tiling) (length (O .input .palette) / 3) (O .passes) error) 0 0 0 error (eqb (O .passes) 0)) cpe cpp states deltas inks ≡ openOf O
     unfolding firstRecord inkCount tilingOf
     opens-as inks cpp cpe error states deltas p b d =
