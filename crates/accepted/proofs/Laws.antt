@@ -1,28 +1,19 @@
--- The walk of what was prepared can start, and is run one. Assumes nothing.
+-- The walk of what was prepared is run one. Assumes nothing.
 use Prim.Native.Nat.{ℕ, _/_}
 use mathlib.Core.Path.{_≡_}
 use mathlib.Core.List.{List}
 use lib.ListN.{length}
 use lib.Ieee.{Float}
-use Rattle.base.specs.Limits.{cppLength}
-use Rattle.base.specs.Refusal.{judge, accepted}
 use Rattle.tiling.specs.declared.Tiling.{Tiling}
-use Rattle.tiling.specs.Tiling.{image}
-use Rattle.input.specs.Input.{Input, inkCount, inputTests}
-use Rattle.search.specs.Shared.{shared, Ready}
+use Rattle.input.specs.Input.{Input, inkCount}
+use Rattle.search.specs.Shared.{shared}
 use Rattle.walk.specs.declared.Outcome.{Outcome}
 use Rattle.walk.specs.Walk.{walkEnd, Refines}
 use Rattle.prepare.specs.Prepare.{Prepared, tilingOf, sharedOf, runOne}
-use Rattle.prepare.proofs.Laws.{start-ready}
 use Rattle.accepted.specs.Accepted.{refinement, refineAccepted}
 
 module _ (I : Input) (T : Tiling) (inks cpp₀ cpp cpe : List Float) (error : Float) (t : T ≡ tilingOf I) (p : Prepared I cpp₀ inks cpp cpe error) where
-  -- the walk can start
-  pub ready-as : judge (inputTests I) ≡ accepted → length cpp₀ ≡ cppLength → Ready (shared T (length (I .palette) / 3) (I .pinned) inks cpp) (image T) (length cpe) (I .indices)
-  unfolding sharedOf inkCount
-  ready-as ok e = rw (t, p .inks-is, p .cpp-is, p .cpe-is) (start-ready I ok cpp₀ e)
-
-  -- and ends as run one does
+  -- it ends as run one does
   pub ends-as : (counts : List ℕ) (cpe′ : List Float) (indices′ counts′ : List ℕ) (r : Outcome) →
       Refines (shared T (length (I .palette) / 3) (I .pinned) inks cpp) cpe (I .indices) counts error cpe′ indices′ counts′ r →
       refinement (record { number = 0; place = 0; passes = r .passes; «initial_error» = error; «final_error» = r .error }) indices′ cpe′ cpp counts′ inks ≡ refineAccepted I (length counts) cpp₀ counts

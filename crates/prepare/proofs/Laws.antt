@@ -1,5 +1,5 @@
 -- What an accepted input gives: an eye that is accepted, a tiling within the limits, a scene that fits, and slices that the walk can start from. Assumes nothing.
-use Prim.Native.Nat.{ℕ, _*_, _%_}
+use Prim.Native.Nat.{ℕ, _*_, _/_, _%_}
 use native.Mathlib.Omega.{arith}
 use native.Mathlib.Nat.{mul-mod-right}
 use native.Mathlib.Numerals.{unary-clauses}
@@ -23,13 +23,13 @@ use Rattle.kernel.proofs.KernelLaws.{length-eyeKernels}
 use Rattle.error.specs.Error.{Scene, scene, SceneFits, initialError}
 use Rattle.field.specs.Field.{FieldFits, fieldOf}
 use Rattle.input.specs.Input.{Input, input, pixelCount, inkCount, inputTests, imageTests, inkTests}
-use Rattle.input.specs.Valid.{Valid, ValidRefine}
+use Rattle.input.specs.Valid.{Valid}
 use Rattle.input.proofs.InputLaws.{input-numbered}
 use Rattle.base.proofs.JudgeLaws.{passes-append}
 use Rattle.input.proofs.Validity.{valid-iff}
 use Rattle.sizes.proofs.Laws.{tiling-limits}
-use Rattle.search.specs.Shared.{Ready}
-use Rattle.prepare.specs.Prepare.{tilingOf, inksOf, cppOf, sceneOf, cpeOf, errorOf, sharedOf, ReadyToPrepare}
+use Rattle.search.specs.Shared.{Ready, shared}
+use Rattle.prepare.specs.Prepare.{tilingOf, inksOf, cppOf, sceneOf, cpeOf, errorOf, sharedOf, ReadyToPrepare, Prepared}
 
 -- all pixels of the image
 pub image-area : (T : Tiling) → area (image T) ≡ T .height * T .width
@@ -118,14 +118,20 @@ module _ (I : Input) (T : Tiling) (inks cpp₀ cpp : List Float) (t : T ≡ tili
   unfolding cppOf
   field-fits ok e = record { limits = rw t (limits I ok); scene = scene-fits-as ok; store = rw k (cpp-length I ok cpp₀ e) }
 
+-- the same of what `prepare` left
+pub prepared-ready : (I : Input) (T : Tiling) (inks cpp₀ cpp cpe : List Float) (error : Float) → T ≡ tilingOf I → Prepared I cpp₀ inks cpp cpe error →
+    judge (inputTests I) ≡ accepted → length cpp₀ ≡ cppLength → Ready (shared T (length (I .palette) / 3) (I .pinned) inks cpp) (image T) (length cpe) (I .indices)
+unfolding sharedOf inkCount
+prepared-ready I T inks cpp₀ cpp cpe error t p ok e = rw (t, p .inks-is, p .cpp-is, p .cpe-is) (start-ready I ok cpp₀ e)
+
 -- ---- what `prepare` asks for
 
 -- the input as a tiling has its size
 abbrev pub sized : Input → Tiling → Input
 sized I T = input (T .width) (T .height) (I .pixels) (I .palette) (I .indices) (I .pinned) (I .params)
 
--- a valid input with its tiling
-pub ready-to-prepare : (I : Input) (T : Tiling) (passes cpe cpp counts inks : ℕ) → T ≡ tilingOf I → ValidRefine I passes cpe cpp counts inks → ReadyToPrepare (sized I T) T inks cpp cpe
+-- a valid input with its tiling, and buffers as long as it asks
+pub ready-to-prepare : (I : Input) (T : Tiling) (cpe cpp inks : ℕ) → T ≡ tilingOf I → Valid I → cpe ≡ 3 * pixelCount I → cpp ≡ cppLength → inks ≡ 3 * inkCount I →
+    ReadyToPrepare (sized I T) T inks cpp cpe
 unfolding tilingOf
-ready-to-prepare I T passes cpe cpp counts inks t v =
-    rw t (record { passes = valid-iff I .1 (v .valid); tiling = refl; inks-length = v .inks-length; cpp-length = v .cpp-length; cpe-length = v .cpe-length })
+ready-to-prepare I T cpe cpp inks t v e p i = rw t (record { passes = valid-iff I .1 v; tiling = refl; inks-length = i; cpp-length = p; cpe-length = e })

@@ -132,7 +132,7 @@ module _ (T : Tiling) (cpp cpp′ : List Float) (e : SameKernels T cpp cpp′) w
           go false false = rw (gaps-same code)
       swap-same f l s code b Outside = refl
 
-      evaluate-same : (f : List Float) (l : List ℕ) (b : Best) → evaluateOf S W f l x y b ≡ evaluateOf S′ W f l x y b
+      pub evaluate-same : (f : List Float) (l : List ℕ) (b : Best) → evaluateOf S W f l x y b ≡ evaluateOf S′ W f l x y b
       unfolding evaluateOf swaps trySwap partnerOf toggles
       evaluate-same f l b =
           rw centres-same (upTo-same 8 _ _ _ (λ code h b. swap-same f l (siteAt W f l x y) code b (neighbourOf code x y (T .width) (T .height))))

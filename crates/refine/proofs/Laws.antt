@@ -48,7 +48,7 @@ module _ (I : Input) (passes : ℕ) (cpe cpp : List Float) (counts : List ℕ) (
       tiling = tiling-is I S q (valid .valid)
 
       pub ready : ReadyToPrepare (sized I (S .tiling)) (S .tiling) (length inks) (length cpp) (length cpe)
-      ready = ready-to-prepare I (S .tiling) passes (length cpe) (length cpp) (length counts) (length inks) tiling valid
+      ready = ready-to-prepare I (S .tiling) (length cpe) (length cpp) (length inks) tiling (valid .valid) (valid .cpe-length) (valid .cpp-length) (valid .inks-length)
 
       pub accepted-is : refineAccepted (sized I (S .tiling)) (length counts) cpp counts ≡ refineOf I passes cpe cpp counts inks
       unfolding tilingOf

@@ -37,7 +37,9 @@ module _ (O : Opening) (S : Sizes) (q : S ≡ sizesOf (O .input)) (r : Status)
     found = tiling-is (O .input) S q (valid-open .refine .valid)
 
     pub ready : ReadyToPrepare (sized (O .input) (S .tiling)) (S .tiling) (length (O .inks)) (length (O .cpp)) (length (O .cpe))
-    ready = ready-to-prepare (O .input) (S .tiling) (O .passes) (length (O .cpe)) (length (O .cpp)) (length (O .counts)) (length (O .inks)) found (valid-open .refine)
+    ready =
+        let v = valid-open .refine in
+        ready-to-prepare (O .input) (S .tiling) (length (O .cpe)) (length (O .cpp)) (length (O .inks)) found (v .valid) (v .cpe-length) (v .cpp-length) (v .inks-length)
 
     pub opens-as : (inks cpp cpe : List Float) (error : Float) (states : List ℕ) (deltas : List Float) →
         Prepared (sized (O .input) (S .tiling)) (O .cpp) inks cpp cpe error → states ≡ replicate (length (O .states)) 0 → deltas ≡ replicate (length (O .deltas)) f0 →

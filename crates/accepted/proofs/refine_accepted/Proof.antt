@@ -1,6 +1,7 @@
 -- `accepted::refine_accepted` meets its contract: what was prepared is what the walk starts from. Assumes nothing.
 use Rattle.input.specs.Input.{Input, input}
-use Rattle.accepted.proofs.Laws.{ready-as, ends-as}
+use Rattle.prepare.proofs.Laws.{prepared-ready}
+use Rattle.accepted.proofs.Laws.{ends-as}
 use borrow.Author.Needs.{needs}
 use Rattle.accepted.proofs.refine_accepted.Statement.{statement}
 use Rattle.accepted.proofs.refine_accepted.Tie as tie
@@ -21,7 +22,7 @@ refine-passes-requires c κs =
     let earlier-4 = earlier-3 .before .before .before .before .before in
     let start = earlier-4 .before .before .before in
     let a = start .pre in
-    ready-as (I (start)) (start .args .t) _ (start .args .cpp .now) _ _ _ (a .tiling) (at-prepare .prepare .ensures) (a .passes) (a .cpp-length)
+    prepared-ready (I (start)) (start .args .t) _ (start .args .cpp .now) _ _ _ (a .tiling) (at-prepare .prepare .ensures) (a .passes) (a .cpp-length)
 
 same-length : tie.Need-same-length
 same-length c = search needs
