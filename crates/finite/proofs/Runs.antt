@@ -11,6 +11,7 @@ use Rattle.base.specs.declared.Rect.{Rect}
 use Rattle.base.specs.Grid.{area}
 use Rattle.base.specs.Refusal.{judge, accepted}
 use Rattle.tiling.specs.Tiling.{image, tile, tiles}
+use Rattle.tiling.proofs.Sizes.{tile-sides}
 use Rattle.search.specs.Shared.{Shared}
 use Rattle.tile.specs.Tile.{State, state, refineTile, noProgress, Covers}
 use Rattle.tile.proofs.Keeps.{Sound}
@@ -22,7 +23,7 @@ use Rattle.bounds.proofs.Within.{number, numbers}
 use Rattle.errorbounds.specs.Errors.{cpeExponent, costExponent}
 use Rattle.walkbounds.specs.Terms.{Steady, tileVisits, cellTerms, walkTileLimit, midTileLimit, tileLimit}
 use Rattle.walkbounds.proofs.Tiles.{Visited, at-rest, tile-visited, tile-weighed}
-use Rattle.walkbounds.proofs.Walks.{tile-sides, few-terms, Walked, tiles-walked, phases-walked}
+use Rattle.walkbounds.proofs.Walks.{few-terms, Walked, tiles-walked, phases-walked}
 use Rattle.input.specs.Input.{Input, inputTests}
 use Rattle.prepare.specs.Prepare.{tilingOf, cpeOf, errorOf, sharedOf, runOne}
 use Rattle.prepare.proofs.Laws.{start-ready}

@@ -6,9 +6,9 @@ use mathlib.Core.List.{List}
 use lib.ListN.{length}
 use lib.Ieee.{nan}
 use Rattle.base.specs.declared.Rect.{Rect}
-use Rattle.base.specs.Grid.{area, Within, columnAt, rowAt, valueAt, cell, crop}
-use Rattle.base.proofs.TableLaws.{getD-table}
-use Rattle.base.proofs.GridLaws.{widen, place-lt, at-inside, part-lt, length-crop}
+use Rattle.base.specs.Grid.{area}
+use Rattle.base.proofs.GridLaws.{length-crop}
+use Rattle.copy.proofs.Parts.{crop-below}
 use Rattle.tiling.specs.declared.Tiling.{Tiling}
 use Rattle.tiling.specs.Tiling.{image, margin, tile, region, tiles}
 use Rattle.tiling.proofs.TilingLaws.{tile-some, tile-within, region-within}
@@ -17,14 +17,6 @@ use Rattle.tile.specs.Tile.{state, noProgress, Covers}
 use Rattle.tile.proofs.Keeps.{Sound, tile-sound}
 use Rattle.job.specs.Copy.{Pixels, copyOf, refinedCopy}
 use Rattle.job.proofs.Merge.{WholeImage}
-
--- a part of an image whose indices name inks
-crop-named : (P W : Rect) (l : List ℕ) (n : ℕ) → Within P W → length l ≡ area P → Named l n → Named (crop 0 1 P W l) n
-unfolding crop cell
-crop-named P W l n w e f i h =
-    let b : i < 1 * area W = omega (arith, h, length-crop 0 1 P W l) in
-    let here = widen w (at-inside 1 W i b) in
-    rw (getD-table {A = ℕ} (1 * area W) _ i 0 b) (f _ (omega (arith, e, place-lt 1 P (columnAt 1 W i) (rowAt 1 W i) (valueAt 1 i) here (part-lt 1 W i b))))
 
 -- the region holds the tile with its neighbours in the image
 edge-before : (a m : ℕ) → 1 ≤ m → a - m ≤ a - 1
@@ -60,7 +52,7 @@ unfolding copyOf
 copy-fits T count t s w n = record {
   cpe = length-crop nan 3 (image T) (region T t) (s .cpe);
   indices = let e = length-crop 0 1 (image T) (region T t) (s .indices) in omega (arith, e);
-  named = crop-named (image T) (region T t) (s .indices) count (region-within T t) (w .indices) n;
+  named = crop-below (image T) (region T t) (s .indices) count (region-within T t) (w .indices) n;
 }
 
 pub made-fits : (S : Shared) (t : ℕ) (copy : Pixels) → t < tiles (S .tiling) → CopyFits (S .tiling) (S .count) t copy →

@@ -1,5 +1,5 @@
 -- How large it all gets within the limits: the larger radius is at most 32, so the margin is at most 33 and the side 64 to 67. Assumes nothing.
-use Prim.Native.Nat.{ℕ, _*_, _≤_, _<_}
+use Prim.Native.Nat.{ℕ, _-_, _*_, _≤_, _<_}
 use native.Mathlib.Omega.{arith}
 use Rattle.base.specs.Limits.{maxSide}
 use Rattle.base.specs.Grid.{width, height, area}
@@ -44,6 +44,13 @@ module _ (T : Tiling) (l : Limits T) where
       }
 
   module _ (t : ℕ) where
+    -- a tile is at most 67 pixels wide and high
+    pub tile-sides : (tile T t .x1 - tile T t .x0 ≤ 67) × (tile T t .y1 - tile T t .y0 ≤ 67)
+    unfolding tile
+    tile-sides =
+        let s = sizes .side-limit in
+        (omega (arith, tile-length (T .width) (tileX T t * side T) (side T)), omega (arith, tile-length (T .height) (tileY T t * side T) (side T)))
+
     pub tile-area-limit : area (tile T t) ≤ 67 * 67
     unfolding area width height tile
     tile-area-limit =

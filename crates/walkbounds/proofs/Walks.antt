@@ -14,7 +14,7 @@ use Rattle.base.specs.Grid.{area, Inside}
 use Rattle.base.specs.Loop.{upTo}
 use Rattle.tiling.specs.declared.Tiling.{Tiling}
 use Rattle.tiling.specs.Tiling.{Limits, image, side, tileX, tileY, tile, tiles, inPhase}
-use Rattle.tiling.proofs.Sizes.{sizes}
+use Rattle.tiling.proofs.Sizes.{sizes, tile-sides}
 use Rattle.search.specs.Shared.{Shared}
 use Rattle.tile.specs.Tile.{State, state, refineTile, noProgress}
 use Rattle.phases.specs.Phases.{Refined, refined, joined, walkTile, walkTry, walkTiles}
@@ -29,14 +29,6 @@ use Rattle.errorbounds.specs.Errors.{cpeExponent, costExponent}
 use Rattle.walkbounds.specs.Costs.{Weighed, comesTo}
 use Rattle.walkbounds.specs.Terms.{Steady, visitTerms, tileVisits, visitLimit, cellTerms, errorTerms, phaseTiles, walkTileLimit, midTileLimit, tileLimit}
 use Rattle.walkbounds.proofs.Tiles.{Visited, at-rest, tile-visited, tile-weighed}
-
--- a tile is at most 67 pixels wide and high
-pub tile-sides : (T : Tiling) → Limits T → (t : ℕ) → (tile T t .x1 - tile T t .x0 ≤ 67) × (tile T t .y1 - tile T t .y0 ≤ 67)
-unfolding tile
-tile-sides T l t = let s = sizes T l .side-limit in (short (T .width) (tileX T t * side T) (side T) s, short (T .height) (tileY T t * side T) (side T) s)
-  where
-    short : (n a s : ℕ) → s ≤ 67 → min n (a + s) - a ≤ 67
-    short n a s h = omega arith
 
 -- the count stays below 2⁵³
 pub few-terms : (m : ℕ) → m ≤ tileLimit → cellTerms m + visitLimit * visitTerms < countLimit
