@@ -19,5 +19,5 @@ module _ (I : Input) (T : Tiling) (inks cpp₀ cpp cpe : List Float) (error : Fl
       refinement (record { number = 0; place = 0; passes = r .passes; «initial_error» = error; «final_error» = r .error }) indices′ cpe′ cpp counts′ inks ≡ refineAccepted I (length counts) cpp₀ counts
   unfolding refineAccepted runOne sharedOf inkCount walkEnd
   ends-as counts cpe′ indices′ counts′ r w =
-      let z = rw (t, p .inks-is, p .cpp-is, p .cpe-is, p .error-is) at w in
-      rw (z .cpe-is, z .indices-is, z .counts-is, z .outcome-is, p .inks-is, p .cpp-is, p .error-is)
+      let z = rw (t, p .built .inks-is, p .built .cpp-is, p .built .cpe-is, p .error-is) at w in
+      rw (z .cpe-is, z .indices-is, z .counts-is, z .outcome-is, p .built .inks-is, p .built .cpp-is, p .error-is)

@@ -29,7 +29,7 @@ use Rattle.base.proofs.JudgeLaws.{passes-append}
 use Rattle.input.proofs.Validity.{valid-iff}
 use Rattle.sizes.proofs.Laws.{tiling-limits}
 use Rattle.search.specs.Shared.{Ready, shared}
-use Rattle.prepare.specs.Prepare.{tilingOf, inksOf, cppOf, sceneOf, cpeOf, errorOf, sharedOf, ReadyToPrepare, Prepared}
+use Rattle.prepare.specs.Prepare.{tilingOf, inksOf, cppOf, sceneOf, cpeOf, errorOf, sharedOf, ReadyToPrepare, Built}
 
 -- all pixels of the image
 pub image-area : (T : Tiling) → area (image T) ≡ T .height * T .width
@@ -118,11 +118,26 @@ module _ (I : Input) (T : Tiling) (inks cpp₀ cpp : List Float) (t : T ≡ tili
   unfolding cppOf
   field-fits ok e = record { limits = rw t (limits I ok); scene = scene-fits-as ok; store = rw k (cpp-length I ok cpp₀ e) }
 
--- the same of what `prepare` left
-pub prepared-ready : (I : Input) (T : Tiling) (inks cpp₀ cpp cpe : List Float) (error : Float) → T ≡ tilingOf I → Prepared I cpp₀ inks cpp cpe error →
-    judge (inputTests I) ≡ accepted → length cpp₀ ≡ cppLength → Ready (shared T (length (I .palette) / 3) (I .pinned) inks cpp) (image T) (length cpe) (I .indices)
-unfolding sharedOf inkCount
-prepared-ready I T inks cpp₀ cpp cpe error t p ok e = rw (t, p .inks-is, p .cpp-is, p .cpe-is) (start-ready I ok cpp₀ e)
+-- ---- what was built
+
+module _ (I : Input) (T : Tiling) (inks cpp₀ cpp cpe : List Float) (t : T ≡ tilingOf I) (b : Built I cpp₀ inks cpp cpe) where
+  -- the walk can start from it
+  pub built-ready : judge (inputTests I) ≡ accepted → length cpp₀ ≡ cppLength → Ready (shared T (length (I .palette) / 3) (I .pinned) inks cpp) (image T) (length cpe) (I .indices)
+  unfolding sharedOf inkCount
+  built-ready ok e = rw (t, b .inks-is, b .cpp-is, b .cpe-is) (start-ready I ok cpp₀ e)
+
+  -- and the initial error is worked out from it
+  pub built-scene : judge (inputTests I) ≡ accepted → SceneFits (T .width) (T .height) (scene (I .pixels) (I .indices) (I .pinned) inks)
+  unfolding inksOf cppOf
+  built-scene ok = scene-fits-as I T inks cpp₀ cpp t (b .inks-is) (b .cpp-is) ok
+
+  pub built-room : length cpe ≡ 3 * (T .height * T .width)
+  unfolding cpeOf
+  built-room = rw (b .cpe-is, t) (length-field (tilingOf I) (sceneOf I) (cppOf I cpp₀))
+
+  pub built-error : initialError T (scene (I .pixels) (I .indices) (I .pinned) inks) cpe ≡ errorOf I cpp₀
+  unfolding inksOf cppOf
+  built-error = error-is I T inks cpp₀ cpp t (b .inks-is) (b .cpp-is) cpe (b .cpe-is)
 
 -- ---- what `prepare` asks for
 

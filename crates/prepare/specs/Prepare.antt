@@ -50,9 +50,13 @@ pub record ReadyToPrepare (I : Input) (T : Tiling) (inks cpp cpe : ℕ) : Type 0
   pub cpp-length : cpp ≡ cppLength
   pub cpe-length : cpe ≡ 3 * pixelCount I
 
--- the buffers afterwards and the initial error
-pub record Prepared (I : Input) (cpp₀ : List Float) (inks cpp cpe : List Float) (error : Float) : Type 0 where
+-- the buffers afterwards
+pub record Built (I : Input) (cpp₀ : List Float) (inks cpp cpe : List Float) : Type 0 where
   pub inks-is : inks ≡ inksOf I
   pub cpp-is : cpp ≡ cppOf I cpp₀
   pub cpe-is : cpe ≡ cpeOf I cpp₀
+
+-- and the initial error
+pub record Prepared (I : Input) (cpp₀ : List Float) (inks cpp cpe : List Float) (error : Float) : Type 0 where
+  pub built : Built I cpp₀ inks cpp cpe
   pub error-is : error ≡ errorOf I cpp₀

@@ -48,4 +48,4 @@ module _ (O : Opening) (S : Sizes) (q : S ≡ sizesOf (O .input)) (r : Status)
     opens-as inks cpp cpe error states deltas p b d =
         let l = valid-open in
         let p : Prepared (O .input) (O .cpp) inks cpp cpe error = rw found at p in
-        rw (found, p .inks-is, p .cpp-is, p .cpe-is, p .error-is, b, d, l .states-length, l .deltas-length) (open-answers O .made r verdict z)
+        rw (found, p .built .inks-is, p .built .cpp-is, p .built .cpe-is, p .error-is, b, d, l .states-length, l .deltas-length) (open-answers O .made r verdict z)

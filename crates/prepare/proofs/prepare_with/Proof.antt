@@ -1,11 +1,7 @@
--- `prepare::prepare_with` meets its contract: each step makes what the next one reads, as the definitions say. Assumes nothing.
-use mathlib.Core.Path.{_≡_, sym, _∙_}
-use Prim.Native.Nat.{_*_}
-use lib.ListN.{length}
-use Rattle.input.specs.Input.{Input, input, pixelCount}
-use Rattle.prepare.specs.Prepare.{inksOf, cppOf}
-use Rattle.prepare.proofs.Laws.{valid, eye-ok, palette-whole, field-is, field-length, error-is, scene-fits-as, field-fits}
+-- `prepare::prepare_with` meets its contract: the initial error is worked out from what was built. Assumes nothing.
 use borrow.Author.Needs.{needs}
+use Rattle.input.specs.Input.{Input, input}
+use Rattle.prepare.proofs.Laws.{built-scene, built-room, built-error}
 use Rattle.prepare.proofs.prepare_with.Statement.{statement}
 use Rattle.prepare.proofs.prepare_with.Tie as tie
 
@@ -13,45 +9,27 @@ use Rattle.prepare.proofs.prepare_with.Tie as tie
 abbrev I : tie.Start → Input
 I s = input (s .args .t .width) (s .args .t .height) (s .args .pixels .now) (s .args .palette .now) (s .args .indices .now) (s .args .pinned .now) (s .args .params)
 
-cpe-room : (s : tie.Start) → length (s .args .cpe .now) ≡ 3 * (s .args .t .height * s .args .t .width)
-unfolding pixelCount
-cpe-room s = s .pre .1 .cpe-length
+abbrev start : tie.After-build-with → tie.Start
+start c =
+    let lent = c .before .before .before .before .before in
+    let given = lent .before .before .before .before .before in
+    given .before
 
-palette-to-inks-requires : tie.Need-palette-to-inks-requires
-palette-to-inks-requires c κs =
-    let earlier = c .before .before .before .before .before in
-    let start = earlier .before .before .before in
-    let a = start .pre .1 in
-    (start .pre .0, (palette-whole (I (start)) (a .passes), a .inks-length ∙ sym (valid (I (start)) (a .passes) .palette-length)))
+abbrev built : tie.After-initial-error-arg2 → tie.After-build-with
+built c =
+    let known = c .before .before .before in
+    known .before .before .before .before .before
 
-eye-kernels-requires : tie.Need-eye-kernels-requires
-eye-kernels-requires c κs =
-    let earlier = c .before .before .before .before .before in
-    let earlier-2 = earlier .before .before .before .before .before in
-    let start = earlier-2 .before .before in
-    (eye-ok (I (start)) (start .pre .1 .passes), start .pre .1 .cpp-length)
-
-initial-field-requires : tie.Need-initial-field-requires
-initial-field-requires c κs =
-    let earlier = c .before .before .before .before .before in
-    let at-palette-to-inks = earlier .before .before .before .before in
-    let earlier-2 = at-palette-to-inks .before .before .before .before .before in
-    let start = earlier-2 .before .before .before .before in
-    let a = start .pre .1 in
-    (start .pre .0, (field-fits (I (start)) (start .args .t) _ (start .args .cpp .now) _ (a .tiling) (at-palette-to-inks .palette-to-inks .ensures) (c .before .before .before .before .before .eye-kernels .ensures) (a .passes) (a .cpp-length), cpe-room (start)))
+build-with-requires : tie.Need-build-with-requires
+build-with-requires c κs = search needs
 
 initial-error-requires : tie.Need-initial-error-requires
 initial-error-requires c κs =
-    let earlier = c .before .before .before .before .before in
-    let at-eye-kernels = earlier .before .before .before .before .before in
-    let at-palette-to-inks = at-eye-kernels .before .before .before .before in
-    let earlier-2 = at-palette-to-inks .before .before .before .before .before in
-    let start = earlier-2 .before .before .before .before in
-    let a = start .pre .1 in
-    let i = at-palette-to-inks .palette-to-inks .ensures in
-    let k = at-eye-kernels .eye-kernels .ensures in
-    let f = c .before .before .before .before .initial-field in
-    (start .pre .0, (scene-fits-as (I (start)) (start .args .t) _ (start .args .cpp .now) _ (a .tiling) i k (a .passes), field-length (I (start)) (start .args .t) _ (start .args .cpp .now) _ (a .tiling) i k _ (f .ensures)))
+    let b = built c in
+    let s = start b in
+    let a = s .pre .1 in
+    let e = b .build-with .ensures in
+    (s .pre .0, (built-scene (I s) (s .args .t) _ (s .args .cpp .now) _ _ (a .tiling) e (a .passes), built-room (I s) (s .args .t) _ (s .args .cpp .now) _ _ (a .tiling) e))
 
 same-length : tie.Need-same-length
 same-length c = search needs
@@ -63,27 +41,17 @@ same-length-3 : tie.Need-same-length-3
 same-length-3 c = search needs
 
 returns : tie.Need-returns
-unfolding inksOf cppOf
 returns c =
-    let earlier = c .before .before .before .before .before in
-    let earlier-2 = earlier .before .before .before .before .before in
-    let at-eye-kernels = earlier-2 .before in
-    let at-palette-to-inks = at-eye-kernels .before .before .before .before in
-    let earlier-3 = at-palette-to-inks .before .before .before .before .before in
-    let start = earlier-3 .before .before .before .before in
-    let a = start .pre .1 in
-    let i = at-palette-to-inks .palette-to-inks .ensures in
-    let k = at-eye-kernels .eye-kernels .ensures in
-    let f = rw (field-is (I (start)) (start .args .t) _ (start .args .cpp .now) _ (a .tiling) i k) at (c .before .before .before .before .before .initial-field .ensures) in
-    record { inks-is = i; cpp-is = k; cpe-is = f; error-is = rw (error-is (I (start)) (start .args .t) _ (start .args .cpp .now) _ (a .tiling) i k _ f) at (c .initial-error .ensures) }
+    let b = built (c .before) in
+    let s = start b in
+    let e = b .build-with .ensures in
+    record { built = e; error-is = rw (built-error (I s) (s .args .t) _ (s .args .cpp .now) _ _ (s .pre .1 .tiling) e) at (c .initial-error .ensures) }
 
 pub prepare-with-spec : {M : Type 1} → statement M
 prepare-with-spec =
     tie.close
     (tie.spec
-    palette-to-inks-requires
-    eye-kernels-requires
-    initial-field-requires
+    build-with-requires
     initial-error-requires
     same-length
     same-length-2
