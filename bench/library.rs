@@ -26,6 +26,16 @@ struct Measured {
 }
 
 #[repr(C)]
+struct Found {
+    number: u64,
+    place: u64,
+    found: u64,
+    pixel: u64,
+    kind: u64,
+    cost: f64,
+}
+
+#[repr(C)]
 pub struct Worked {
     pub number: u64,
     pub place: u64,
@@ -46,6 +56,12 @@ extern "C" {
         pixels: *const u8, pixels_len: usize, width: u64, height: u64, palette: *const u8, palette_len: usize,
         indices: *const u8, indices_len: usize, ppi: f64, viewing_distance_cm: f64,
     ) -> Measured;
+    fn dbs_find_move(
+        pixels: *const u8, pixels_len: usize, width: u64, height: u64, palette: *const u8, palette_len: usize,
+        indices: *const u8, indices_len: usize, pinned: *const u8, pinned_len: usize,
+        ppi: f64, viewing_distance_cm: f64, cpe: *mut f64, cpe_len: usize, cpp: *mut f64, cpp_len: usize,
+        inks: *mut f64, inks_len: usize,
+    ) -> Found;
     pub fn dbs_open(
         record: *mut u64, record_len: usize, pixels: *const u8, pixels_len: usize, width: u64, height: u64,
         palette: *const u8, palette_len: usize, indices: *const u8, indices_len: usize,
@@ -128,4 +144,33 @@ pub fn measure(image: &Image, indices: &[u8]) -> f64 {
     };
     assert_eq!((measured.number, measured.place), (0, 0), "perceived_error refused");
     measured.error
+}
+
+/// Pixel, kind and cost of what `dbs_find_move` finds from the indices of `lent`, whose other buffers it is lent.
+pub fn find_move(image: &Image, lent: &mut Outcome) -> Option<(u64, u64, f64)> {
+    // Sound: as above.
+    let found = unsafe {
+        dbs_find_move(
+            image.pixels.as_ptr(),
+            image.pixels.len(),
+            image.width as u64,
+            image.height as u64,
+            image.palette.as_ptr(),
+            image.palette.len(),
+            lent.indices.as_ptr(),
+            lent.indices.len(),
+            image.pinned.as_ptr(),
+            image.pinned.len(),
+            image.ppi,
+            image.viewing_distance_cm,
+            lent.cpe.as_mut_ptr(),
+            lent.cpe.len(),
+            lent.cpp.as_mut_ptr(),
+            lent.cpp.len(),
+            lent.inks.as_mut_ptr(),
+            lent.inks.len(),
+        )
+    };
+    assert_eq!((found.number, found.place), (0, 0), "dbs_find_move refused");
+    (found.found == 1).then_some((found.pixel, found.kind, found.cost))
 }

@@ -22,14 +22,17 @@ use times::Times;
 
 const MAX_PASSES: usize = 10;
 
-/// The input of the tables of parts, sizes and passes.
+/// As many as the library allows.
+const MOST_PASSES: usize = 1000;
+
+/// The input of the tables of parts, sizes, passes and a settled picture.
 const PICTURE: Input = Input { start: Start::Diffused, width: 800, height: 480, inks: 7, ppi: 127.0, caption: false, vivid: false };
 
 fn main() -> ExitCode {
     let words: Vec<String> = std::env::args().skip(1).collect();
     let words: Vec<&str> = words.iter().map(String::as_str).collect();
     let (table, rest) = match words.as_slice() {
-        [table @ ("--inputs" | "--sizes" | "--passes"), rest @ ..] => (*table, rest),
+        [table @ ("--inputs" | "--sizes" | "--passes" | "--settled"), rest @ ..] => (*table, rest),
         rest => ("--parts", rest),
     };
     let runs = match rest {
@@ -38,10 +41,20 @@ fn main() -> ExitCode {
         _ => None,
     };
     let Some(runs) = runs else {
-        eprintln!("usage: bench/run [--inputs | --sizes | --passes] [--runs N]");
+        eprintln!("usage: bench/run [--inputs | --sizes | --passes | --settled] [--runs N]");
         return ExitCode::from(2);
     };
     println!("{}", machine());
+    if table == "--settled" {
+        print_converged(runs);
+    } else {
+        print_beside_copy(table, runs);
+    }
+    println!("{}", machine());
+    ExitCode::SUCCESS
+}
+
+fn print_beside_copy(table: &str, runs: usize) {
     println!(
         "40 cm, at most {MAX_PASSES} passes, 7 inks where no number is given; {runs} runs, library and copy in turn."
     );
@@ -53,8 +66,6 @@ fn main() -> ExitCode {
         "--passes" => print_passes(runs),
         _ => [127.0, 40.0, 340.0].into_iter().for_each(|ppi| print_parts(ppi, runs)),
     }
-    println!("{}", machine());
-    ExitCode::SUCCESS
 }
 
 /// Processor, number of cores, load.
@@ -263,4 +274,34 @@ fn print_passes(runs: usize) {
         println!("| {passes} | {:.0} | {} |", times.median().processor, lent.accepted_per_pass[passes - 1]);
     }
     println!();
+}
+
+/// The search of a picture in which no move is left, against a pass over it.
+fn print_converged(runs: usize) {
+    let image = image(PICTURE);
+    let mut lent = Outcome::new(&image, MOST_PASSES);
+    let mut passes = 0;
+    while passes == 0 || lent.accepted_per_pass[0] > 0 {
+        library::refine(&image, MOST_PASSES, &mut lent);
+        passes += lent.passes;
+    }
+    let (mut finds, mut refines) = (Times::default(), Times::default());
+    for _ in 0..runs {
+        assert_eq!(finds.add(|| library::find_move(&image, &mut lent)), None);
+        refines.add(|| library::refine(&image, 1, &mut lent));
+        assert_eq!(lent.accepted_per_pass[0], 0);
+    }
+    println!(
+        "Error-diffused picture, {}x{} pixels, {} per inch, 40 cm, 7 inks, settled in {passes} passes.\n\
+         Library, both calls on the same buffers; {runs} runs, in turn; processor time.\n",
+        image.width, image.height, image.ppi
+    );
+    println!("| call | median, ms | least, ms |");
+    println!("|---|---|---|");
+    let [finds, refines] = [finds, refines].map(|times| [times.median(), times.least()].map(|time| time.processor));
+    println!("| dbs_find_move, no move found | {:.1} | {:.1} |", finds[0], finds[1]);
+    println!("| dbs_refine, 1 pass, no move accepted | {:.1} | {:.1} |", refines[0], refines[1]);
+    let faster = if finds[0] <= refines[0] { "dbs_find_move" } else { "dbs_refine" };
+    let ratios = [finds[0] / refines[0], finds[1] / refines[1]];
+    println!("\nFaster is {faster}. Search / pass: median {:.3}, least {:.3}.\n", ratios[0], ratios[1]);
 }

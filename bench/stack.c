@@ -43,6 +43,12 @@ static uint64_t measure(struct state *s)
     return perceived_error(s->pixels, 3 * N, WIDTH, HEIGHT, s->palette, 3 * INKS, s->indices, N, s->ppi, 40).number;
 }
 
+static uint64_t find_move(struct state *s)
+{
+    return dbs_find_move(s->pixels, 3 * N, WIDTH, HEIGHT, s->palette, 3 * INKS, s->indices, N, s->pinned, N, s->ppi, 40,
+                         s->cpe, 3 * N, s->cpp, DBS_KERNEL_STORE_LEN, s->inks, 3 * INKS).number;
+}
+
 static uint64_t open_job(struct state *s)
 {
     return dbs_open(s->record, DBS_RECORD_LEN, s->pixels, 3 * N, WIDTH, HEIGHT, s->palette, 3 * INKS, s->indices, N,
@@ -128,7 +134,7 @@ static void fill(struct state *s, double ppi)
         s->palette[i] = (uint8_t)(i * 97 % 256);
 }
 
-enum { REFINE, MEASURE, OPEN, TAKE, WORK, PUT_BACK, CLOSE, CALLS };
+enum { REFINE, MEASURE, FIND_MOVE, OPEN, TAKE, WORK, PUT_BACK, CLOSE, CALLS };
 
 static void keep_most(size_t *most, size_t bytes)
 {
@@ -145,6 +151,7 @@ static void measure_eye(struct state *s, unsigned char *stack, double ppi, uint6
     fill(s, ppi);
     s->tiles = tile_count(&tiling);
     most[MEASURE] = used(measure, s, stack);
+    most[FIND_MOVE] = used(find_move, s, stack);
     most[OPEN] = used(open_job, s, stack);
     for (s->tile = 0; s->tile < s->tiles; s->tile++) {
         if (tile_phase(&tiling, s->tile) != 0)
@@ -161,8 +168,8 @@ static void measure_eye(struct state *s, unsigned char *stack, double ppi, uint6
 
 int main(void)
 {
-    static const char *const NAMES[CALLS] = { "dbs_refine", "perceived_error", "dbs_open", "dbs_take", "dbs_work",
-                                              "dbs_put_back", "dbs_close" };
+    static const char *const NAMES[CALLS] = { "dbs_refine", "perceived_error", "dbs_find_move", "dbs_open", "dbs_take",
+                                              "dbs_work", "dbs_put_back", "dbs_close" };
     struct state *s = malloc(sizeof *s);
     unsigned char *stack = aligned_alloc(4096, STACK);
     size_t common[CALLS] = { 0 }, fine[CALLS] = { 0 };

@@ -1,8 +1,8 @@
-//! What refine and measure are given and what they answer. Floats of buffers and answers are bits.
+//! What refine, measure and find are given and what they answer. Floats of buffers and answers are bits.
 
 use crate::original::DbsParams;
 
-/// The arguments of `dbs_refine`; `perceived_error` takes those that it has.
+/// The arguments of `dbs_refine`; `perceived_error` and `dbs_find_move` take those that they have.
 #[derive(Clone)]
 pub struct Call {
     pub width: u64,
@@ -43,6 +43,17 @@ pub struct Measured {
     pub error: u64,
 }
 
+/// The answer of find, and what was lent, afterwards.
+pub struct Found {
+    pub number: u64,
+    pub place: u64,
+    pub found: u64,
+    pub pixel: u64,
+    pub kind: u64,
+    pub cost: u64,
+    pub lent: Buffers,
+}
+
 pub const CPP_LEN: usize = 8450;
 pub const CPP_CHROMA: usize = 4225;
 
@@ -67,19 +78,27 @@ impl Call {
         numbers(self) == numbers(other)
             && (&self.pixels, &self.palette, &self.lent.indices) == (&other.pixels, &other.palette, &other.lent.indices)
     }
+
+    pub fn same_to_find(&self, other: &Self) -> bool {
+        self.same_to_measure(other) && self.pinned == other.pinned
+    }
+}
+
+impl Buffers {
+    /// The first cell that differs, if any does.
+    fn difference(&self, expected: &Self) -> Option<String> {
+        first("indices", &self.indices, &expected.indices)
+            .or_else(|| first("accepted_per_pass", &self.accepted_per_pass, &expected.accepted_per_pass))
+            .or_else(|| first("inks", &self.inks, &expected.inks))
+            .or_else(|| first("cpp", &self.cpp, &expected.cpp))
+            .or_else(|| first("cpe", &self.cpe, &expected.cpe))
+    }
 }
 
 impl Refined {
-    /// The first cell that differs, if any does.
     pub fn difference(&self, expected: &Self) -> Option<String> {
         let answer = |r: &Self| [r.number, r.place, r.passes, r.initial_error, r.final_error];
-        let (a, b) = (&self.lent, &expected.lent);
-        first("answer", &answer(self), &answer(expected))
-            .or_else(|| first("indices", &a.indices, &b.indices))
-            .or_else(|| first("accepted_per_pass", &a.accepted_per_pass, &b.accepted_per_pass))
-            .or_else(|| first("inks", &a.inks, &b.inks))
-            .or_else(|| first("cpp", &a.cpp, &b.cpp))
-            .or_else(|| first("cpe", &a.cpe, &b.cpe))
+        first("answer", &answer(self), &answer(expected)).or_else(|| self.lent.difference(&expected.lent))
     }
 }
 
@@ -87,6 +106,13 @@ impl Measured {
     pub fn difference(&self, expected: &Self) -> Option<String> {
         let answer = |m: &Self| [m.number, m.place, m.error];
         first("answer", &answer(self), &answer(expected))
+    }
+}
+
+impl Found {
+    pub fn difference(&self, expected: &Self) -> Option<String> {
+        let answer = |f: &Self| [f.number, f.place, f.found, f.pixel, f.kind, f.cost];
+        first("answer", &answer(self), &answer(expected)).or_else(|| self.lent.difference(&expected.lent))
     }
 }
 

@@ -1,14 +1,35 @@
 //! What document 01 says of an input, and the copy of the Rust where the input is accepted.
 
-use crate::call::{Buffers, Call, Measured, Refined, CPP_CHROMA, CPP_LEN};
-use crate::original::{dbs_refine, eye_sigmas, perceived_error, SrgbPalette};
+use crate::call::{Buffers, Call, Found, Measured, Refined, CPP_CHROMA, CPP_LEN};
+use crate::original::{dbs_refine, eye_sigmas, perceived_error, DbsParams, DbsStats, FirstMove, SrgbPalette};
+
+/// What is asked; each is given, and tests, a part of what a call holds.
+#[derive(Clone, Copy, PartialEq)]
+pub enum Asked {
+    Refine,
+    Measure,
+    Find,
+}
 
 pub fn refine(call: &Call) -> Refined {
-    let (number, place) = refusal(call, false);
+    let (number, place) = refusal(call, Asked::Refine);
     let mut lent = call.lent.clone();
     if number > 0 {
         return Refined { number, place, passes: 0, initial_error: 0, final_error: 0, lent };
     }
+    let (stats, _) = run(call, call.max_passes, &mut lent);
+    Refined {
+        number,
+        place,
+        passes: u64::from(stats.passes),
+        initial_error: stats.initial_error.to_bits(),
+        final_error: stats.final_error.to_bits(),
+        lent,
+    }
+}
+
+/// What the copy of the Rust answers, and its first move.
+fn run(call: &Call, max_passes: u64, lent: &mut Buffers) -> (DbsStats, Option<FirstMove>) {
     let pinned: Vec<bool> = call.pinned.iter().map(|&byte| byte != 0).collect();
     let (stats, kept) = dbs_refine(
         &call.pixels,
@@ -17,7 +38,7 @@ pub fn refine(call: &Call) -> Refined {
         &palette(call),
         &mut lent.indices,
         (!pinned.is_empty()).then_some(&pinned[..]),
-        &call.params(),
+        &DbsParams { max_passes: max_passes as u32, ..call.params() },
     );
     let put = |cells: &mut [u64], values: &[f64]| {
         for (cell, value) in cells.iter_mut().zip(values) {
@@ -31,14 +52,7 @@ pub fn refine(call: &Call) -> Refined {
     for (cell, &accepted) in lent.accepted_per_pass.iter_mut().zip(&stats.accepted_per_pass) {
         *cell = accepted as u32;
     }
-    Refined {
-        number,
-        place,
-        passes: u64::from(stats.passes),
-        initial_error: stats.initial_error.to_bits(),
-        final_error: stats.final_error.to_bits(),
-        lent,
-    }
+    (stats, kept.first)
 }
 
 /// Refine with no pass allowed and no counts: everything up to the walk.
@@ -48,7 +62,7 @@ pub fn start(call: &Call) -> Refined {
 }
 
 pub fn measure(call: &Call) -> Measured {
-    let (number, place) = refusal(call, true);
+    let (number, place) = refusal(call, Asked::Measure);
     if number > 0 {
         return Measured { number, place, error: 0 };
     }
@@ -57,9 +71,23 @@ pub fn measure(call: &Call) -> Measured {
     Measured { number, place, error: error.to_bits() }
 }
 
+/// The first move of a pass, and the buffers as they are with no pass allowed.
+pub fn find(call: &Call) -> Found {
+    let (number, place) = refusal(call, Asked::Find);
+    let mut answer = Found { number, place, found: 0, pixel: 0, kind: 0, cost: 0, lent: call.lent.clone() };
+    if number == 0 {
+        run(call, 0, &mut answer.lent);
+        if let (_, Some(first)) = run(call, 1, &mut call.lent.clone()) {
+            (answer.found, answer.pixel, answer.kind) = (1, first.pixel as u64, first.kind);
+            answer.cost = first.cost.to_bits();
+        }
+    }
+    answer
+}
+
 /// Number and place of the first row of document 01's table that holds, or 0, 0. Measuring is given
-/// no mask, no passes and no buffers.
-pub fn refusal(call: &Call, measuring: bool) -> (u64, u64) {
+/// no mask, no passes and no buffers, finding no passes and no counts.
+pub fn refusal(call: &Call, asked: Asked) -> (u64, u64) {
     if call.width < 1 || 4096 < call.width || 4096 < call.height {
         return (1, 0);
     }
@@ -69,6 +97,7 @@ pub fn refusal(call: &Call, measuring: bool) -> (u64, u64) {
     let unnamed = lent.indices.iter().position(|&index| usize::from(index) >= inks);
     let usable = |x: f64| x.is_finite() && x > 0.0;
     let [luminance, chrominance] = eye_sigmas(&call.params());
+    let (refining, measuring) = (asked == Asked::Refine, asked == Asked::Measure);
     let rows = [
         (2, 0, call.pixels.len() != 3 * n),
         (3, 0, lent.indices.len() != n),
@@ -79,10 +108,10 @@ pub fn refusal(call: &Call, measuring: bool) -> (u64, u64) {
         (8, 0, !usable(call.viewing_distance_cm)),
         (9, 0, luminance < 0.05),
         (9, 1, 2.5 * chrominance > 16.0),
-        (10, 0, !measuring && call.max_passes > 1000),
+        (10, 0, refining && call.max_passes > 1000),
         (11, 1, !measuring && lent.cpe.len() != 3 * n),
         (11, 2, !measuring && lent.cpp.len() != CPP_LEN),
-        (11, 3, !measuring && lent.accepted_per_pass.len() as u64 != call.max_passes),
+        (11, 3, refining && lent.accepted_per_pass.len() as u64 != call.max_passes),
         (11, 8, !measuring && lent.inks.len() != 3 * inks),
     ];
     rows.into_iter().find(|row| row.2).map_or((0, 0), |(number, place, _)| (number, place))

@@ -2,7 +2,7 @@
 //! and working are the copy of the Rust's.
 
 use crate::call::{Buffers, Call, CPP_LEN};
-use crate::expected;
+use crate::expected::{self, Asked};
 use crate::job::*;
 use crate::tiles::{area, radii, Tiling};
 
@@ -43,7 +43,7 @@ fn open_refusal(call: &Call, job: &Job) -> (u64, u64) {
     if job.record.len() != RECORD_LEN {
         return (12, 0);
     }
-    match expected::refusal(&given(call, job), false) {
+    match expected::refusal(&given(call, job), Asked::Refine) {
         // Buffers 4 and 5 come before 8.
         other @ ((0, 0) | (11, 8)) => {
             let tiles = Tiling::of(call).count() as usize;

@@ -1,6 +1,6 @@
 //! The static library, called through include/dbs.h.
 
-use crate::call::{Buffers, Call, Measured, Refined};
+use crate::call::{Buffers, Call, Found, Measured, Refined};
 
 #[repr(C)]
 struct DbsStats {
@@ -16,6 +16,16 @@ struct DbsMeasured {
     number: u64,
     place: u64,
     error: f64,
+}
+
+#[repr(C)]
+struct DbsFound {
+    number: u64,
+    place: u64,
+    found: u64,
+    pixel: u64,
+    kind: u64,
+    cost: f64,
 }
 
 extern "C" {
@@ -55,6 +65,27 @@ extern "C" {
         ppi: f64,
         viewing_distance_cm: f64,
     ) -> DbsMeasured;
+
+    fn dbs_find_move(
+        pixels: *const u8,
+        pixels_len: usize,
+        width: u64,
+        height: u64,
+        palette: *const u8,
+        palette_len: usize,
+        indices: *const u8,
+        indices_len: usize,
+        pinned: *const u8,
+        pinned_len: usize,
+        ppi: f64,
+        viewing_distance_cm: f64,
+        cpe: *mut f64,
+        cpe_len: usize,
+        cpp: *mut f64,
+        cpp_len: usize,
+        inks: *mut f64,
+        inks_len: usize,
+    ) -> DbsFound;
 }
 
 pub fn refine(call: &Call) -> Refined {
@@ -125,6 +156,45 @@ pub fn measure(call: &Call) -> Measured {
     };
     assert!([pixels, palette, indices].map(Lent::back) == slices.map(|s| &s[..]));
     Measured { number: measured.number, place: measured.place, error: measured.error.to_bits() }
+}
+
+pub fn find(call: &Call) -> Found {
+    let slices = [&call.pixels, &call.palette, &call.lent.indices, &call.pinned];
+    let [mut pixels, mut palette, mut indices, mut pinned] = slices.map(|s| Lent::new(s));
+    let [mut cpe, mut cpp, mut inks] = [&call.lent.cpe, &call.lent.cpp, &call.lent.inks].map(|s| Lent::new(s));
+    // Sound: as above.
+    let found = unsafe {
+        dbs_find_move(
+            pixels.start(),
+            pixels.len(),
+            call.width,
+            call.height,
+            palette.start(),
+            palette.len(),
+            indices.start(),
+            indices.len(),
+            pinned.start(),
+            pinned.len(),
+            call.ppi,
+            call.viewing_distance_cm,
+            cpe.start().cast(),
+            cpe.len(),
+            cpp.start().cast(),
+            cpp.len(),
+            inks.start().cast(),
+            inks.len(),
+        )
+    };
+    assert!([pixels, palette, indices, pinned].map(Lent::back) == slices.map(|s| &s[..]));
+    Found {
+        number: found.number,
+        place: found.place,
+        found: found.found,
+        pixel: found.pixel,
+        kind: found.kind,
+        cost: found.cost.to_bits(),
+        lent: Buffers { cpe: cpe.back(), cpp: cpp.back(), inks: inks.back(), ..call.lent.clone() },
+    }
 }
 
 /// A copy of a slice with cells before and after it that no call may touch. Bytes start unaligned.

@@ -78,7 +78,8 @@ fn compare(seed: u64, scale: f64) -> ExitCode {
         plate::compare(),
         eyes::compare(),
         refine::refine(&groups),
-        refine::measure(groups),
+        refine::measure(&groups),
+        refine::find(&groups),
         refusals::compare(seed, scale),
         replay::compare(),
     ];

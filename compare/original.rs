@@ -371,6 +371,7 @@ struct Region {
     rect: Rect,
     cpe: Vec<[f64; 3]>,
     indices: Vec<u8>,
+    first: Option<FirstMove>, // accessor
 }
 
 impl Region {
@@ -381,6 +382,7 @@ impl Region {
             rect,
             cpe: rows.clone().flat_map(|y| cpe[span(y)].iter().copied()).collect(),
             indices: rows.flat_map(|y| indices[span(y)].iter().copied()).collect(),
+            first: None, // accessor
         }
     }
 
@@ -398,7 +400,7 @@ impl Region {
 /// of accepted moves and the summed change in perceived error.
 fn refine_tile(sh: &Shared, region: &mut Region, tile: Rect) -> (usize, f64) {
     const EPS: f64 = 1e-9;
-    let Region { rect, cpe, indices } = region;
+    let Region { rect, cpe, indices, first } = region; // accessor: also first
     let (rw, rh) = (rect.width(), rect.y1 - rect.y0);
     let local = |x: usize, y: usize| (y - rect.y0) * rw + (x - rect.x0);
     let cpp = [sh.cpp_lum, sh.cpp_chroma, sh.cpp_chroma];
@@ -465,6 +467,8 @@ fn refine_tile(sh: &Shared, region: &mut Region, tile: Rect) -> (usize, f64) {
             }
 
             let Some(mv) = best else { continue };
+            let kind = matches!(mv, Move::Swap { .. }) as u64; // accessor
+            first.get_or_insert(FirstMove { pixel: y * sh.width + x, kind, cost: best_de }); // accessor
             accepted += 1;
             delta += best_de;
             match mv {
@@ -567,6 +571,7 @@ pub fn dbs_refine(
         y1: (t.y1 + margin).min(height),
     };
 
+    let mut first = None; // accessor
     let mut accepted_per_pass = Vec::new();
     for _ in 0..params.max_passes {
         let mut accepted = 0;
@@ -582,6 +587,7 @@ pub fn dbs_refine(
             // Regions of one phase are disjoint; fold in tile order for a deterministic sum.
             for (region, n, delta) in results {
                 region.copy_into(&mut cpe, indices, width);
+                first = first.or(region.first); // accessor
                 accepted += n;
                 err += delta;
             }
@@ -598,7 +604,7 @@ pub fn dbs_refine(
         initial_error,
         final_error: err,
     };
-    (stats, Kept { cpe, cpp: [cpp_lum.data, cpp_chroma.data], inks }) // accessor
+    (stats, Kept { cpe, cpp: [cpp_lum.data, cpp_chroma.data], inks, first }) // accessor
 }
 
 /// Perceived error `Σ_ch Σ_m ((p_ch ∗ e_ch)(m))²` of `indices` against `pixels`, computed
@@ -645,11 +651,20 @@ pub fn perceived_error(
 
 // Accessors for the comparison.
 
-/// What a run of `dbs_refine` leaves: `c_pe` at its end, the values of `c_pp` and the inks in YyCxCz.
+/// What a run of `dbs_refine` leaves: `c_pe` at its end, the values of `c_pp`, the inks in YyCxCz and its
+/// first accepted move.
 pub struct Kept {
     pub cpe: Vec<[f64; 3]>,
     pub cpp: [Vec<f64>; 2],
     pub inks: Vec<[f64; 3]>,
+    pub first: Option<FirstMove>,
+}
+
+/// An accepted move: its pixel, 0 for a toggle or 1 for a swap, and the change in perceived error.
+pub struct FirstMove {
+    pub pixel: usize,
+    pub kind: u64,
+    pub cost: f64,
 }
 
 /// Blur widths in pixels, `[luminance, chrominance]`.
@@ -691,7 +706,12 @@ pub fn refine_region(
     let rect = |[x0, y0, x1, y1]: [usize; 4]| Rect { x0, y0, x1, y1 };
     let kernel = |(radius, data): (usize, &[f64])| Kernel2D { radius, size: 2 * radius + 1, data: data.to_vec() };
     let [cpp_lum, cpp_chroma] = &cpp.map(kernel);
-    let mut region = Region { rect: rect(region), cpe: std::mem::take(cpe), indices: std::mem::take(indices) };
+    let mut region = Region {
+        rect: rect(region),
+        cpe: std::mem::take(cpe),
+        indices: std::mem::take(indices),
+        first: None,
+    };
     let answer = refine_tile(&Shared { width, height, inks, cpp_lum, cpp_chroma, pinned }, &mut region, rect(tile));
     (*cpe, *indices) = (region.cpe, region.indices);
     answer

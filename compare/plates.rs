@@ -1,4 +1,4 @@
-//! The plates that are refined and measured, in groups. Their buffers are still to be lent.
+//! The plates that are refined, measured and searched, in groups. Their buffers are still to be lent.
 
 use crate::call::{Buffers, Call};
 use crate::eyes::{around, eye};
@@ -24,16 +24,18 @@ pub fn groups(seed: u64, scale: f64) -> Vec<Group> {
     group("every blur radius", radii(&mut r));
     group("passes 0, 1, 2, 10, 1000", passes(&mut r, many(100)));
     group("random eyes, no pass", (0..many(10_000)).map(|_| random_eye_plate(&mut r)).collect());
+    group("the order of a pass", order_of_pass());
     group("swaps of equal cost", equal_swaps());
     group("few colours, equal costs", (0..many(5000)).map(|_| equal_costs(&mut r)).collect());
     group("random plates", (0..many(30_000)).map(|_| random_plate(&mut r)).collect());
     groups
 }
 
+pub const BLACK_WHITE: [u8; 6] = [0, 0, 0, 255, 255, 255];
+
 /// The input of document 01's program `plate`.
 pub fn program_plate() -> Call {
-    let black_white = [0, 0, 0, 255, 255, 255];
-    call(2, 1, &black_white, &black_white, &[1, 0], &[], DbsParams::default())
+    call(2, 1, &BLACK_WHITE, &BLACK_WHITE, &[1, 0], &[], DbsParams::default())
 }
 
 /// A call whose buffers but for the indices are still to be lent.
@@ -172,6 +174,50 @@ fn random_eye_plate(r: &mut Random) -> Call {
     let (width, height, inks) = (r.between(1, 4), r.between(0, 3), r.between(1, 4));
     let eye = random_eye(r);
     plate(r, width, height, inks, eye)
+}
+
+/// Black pixels in one tile, in several of one phase and in several phases, so that the first in the order of a
+/// pass is often not the first by number. Tiles of side 64, then of 67.
+fn order_of_pass() -> Vec<Call> {
+    // Of 2x2 tiles, the columns and rows of those with a black pixel.
+    const TILES: [&[[u64; 2]]; 9] = [
+        &[[0, 0], [1, 0], [0, 1], [1, 1]],
+        &[[1, 0], [0, 1], [1, 1]],
+        &[[0, 1], [1, 1]],
+        &[[1, 0], [1, 1]],
+        &[[1, 0], [0, 1]],
+        &[[0, 0]],
+        &[[1, 0]],
+        &[[0, 1]],
+        &[[1, 1]],
+    ];
+    let mut plates = vec![];
+    for (side, params) in [(64, DbsParams::default()), (67, DbsParams { max_passes: 10, ..reach(16, 1.0) })] {
+        let mut add = |width, height, black: &[[u64; 2]]| plates.push(black_pixels(width, height, black, params));
+        add(side + 1, 2, &[[side, 0], [0, 1]]);
+        add(side + 1, 2, &[[side - 1, 0], [0, 1]]);
+        add(2, side + 1, &[[1, 0], [0, side]]);
+        add(2 * side + 1, 1, &[[side, 0], [2 * side, 0]]);
+        add(1, 2 * side + 1, &[[0, side], [0, 2 * side]]);
+        add(2 * side + 1, side + 1, &[[2 * side, 1], [0, 2], [side, 0], [0, side]]);
+        add(3, 3, &[[2, 0], [0, 1], [1, 2]]);
+        for tiles in TILES {
+            let black: Vec<_> = tiles.iter().map(|tile| tile.map(|at| at * side)).collect();
+            add(side + 1, side + 1, &black);
+        }
+    }
+    plates
+}
+
+/// A plate that should be white, all pinned but for some pixels that are black: only those can move.
+pub fn black_pixels(width: u64, height: u64, black: &[[u64; 2]], params: DbsParams) -> Call {
+    let n = (width * height) as usize;
+    let (mut indices, mut pinned) = (vec![1; n], vec![1; n]);
+    for [x, y] in black {
+        let pixel = (y * width + x) as usize;
+        (indices[pixel], pinned[pixel]) = (0, 0);
+    }
+    call(width, height, &vec![255; 3 * n], &BLACK_WHITE, &indices, &pinned, params)
 }
 
 /// For each two neighbour codes in turn a plate on which the pixel (1, 1) swaps with either at the same

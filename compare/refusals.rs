@@ -4,12 +4,13 @@
 use std::collections::BTreeMap;
 
 use crate::call::{Call, CPP_CHROMA, CPP_LEN};
+use crate::expected::{self, Asked};
 use crate::eyes::{around, eye};
 use crate::original::{eye_sigmas, DbsParams};
 use crate::plates::plate;
 use crate::random::Random;
-use crate::refine::{measure_one, refine_one};
-use crate::{expected, Section};
+use crate::refine::{find_one, measure_one, refine_one};
+use crate::Section;
 
 /// A change of a call in what one row of the table is about, to either side of its limit.
 pub struct Change {
@@ -24,7 +25,11 @@ pub fn compare(seed: u64, scale: f64) -> Section {
         let mut call = plate.clone();
         changes.iter().for_each(|change| (change.make)(&mut call));
         section.check("refine", refine_one(&call));
-        *answers.entry(expected::refusal(&call, false).0).or_insert(0) += 1;
+        *answers.entry(expected::refusal(&call, Asked::Refine).0).or_insert(0) += 1;
+        // Finding is given no passes.
+        if changes.is_empty() || changes.iter().any(|change| change.row != 10) {
+            section.check("find", find_one(&call));
+        }
         // Measuring is given no mask, passes or buffers.
         if changes.iter().any(|change| ![4, 10, 11].contains(&change.row)) {
             section.check("measure", measure_one(&call));

@@ -1,29 +1,32 @@
 //! The list of replay.txt: calls with their answers, for a program that makes them anew.
 
-use crate::call::{Call, Measured, Refined};
+use crate::call::{Call, Found, Measured, Refined};
 use crate::eyes::{around, checksum, eye, halves};
 use crate::job_lines::Side;
 use crate::original::{eye_sigmas, DbsParams};
-use crate::plates::{call, equal_swaps, plate, program_plate, random_eye, reach, smallest};
+use crate::plates::{black_pixels, call, equal_swaps, plate, program_plate, random_eye, reach, smallest, BLACK_WHITE};
 use crate::random::Random;
 use crate::{expected, job_lines, job_replay, library, Section};
 
 const HEADER: &str = "\
-# Calls of refine and measure, then of jobs, with their answers, by document 01's table of refusals and the
-# copy of the Rust, made with
+# Calls of refine, measure and find, then of jobs, with their answers, by document 01's table of refusals and
+# the copy of the Rust, made with
 #   compare/run --replay > compare/replay.txt
-# Three lines for a call; words are separated by one space, and none is empty.
+# Four lines for a call; words are separated by one space, and none is empty.
 #   call WIDTH HEIGHT MAX_PASSES PPI DISTANCE PIXELS PALETTE PINNED INDICES CPE CPP COUNTS INKS
 #   refine NUMBER PLACE PASSES INITIAL FINAL INDICES COUNTS CPE CPP COUNTS INKS
 #   measure NUMBER PLACE ERROR
-# WIDTH, HEIGHT, MAX_PASSES, NUMBER, PLACE, PASSES: decimal. PPI, DISTANCE, INITIAL, FINAL, ERROR: the
-# bits of an f64, 16 hexadecimal digits. PIXELS, PALETTE, PINNED, INDICES: bytes of 2 hexadecimal
-# digits, or - for none; of refine, the indices afterwards.
-# Last in a call: the lengths of the lent buffers, decimal. Before the call each cell of cpe, cpp and
-# inks holds the bits bff0000000000000 (-1.0), each count 4294967295.
-# COUNTS of refine, the first: those of the passes run, decimal, joined by commas, or - for none. Its
-# last four words are checksums of the buffers afterwards, untouched cells too, 8 hexadecimal digits:
-# h = 0; for each cell, of an f64 first the high and then the low 32 bits, h becomes
+#   find NUMBER PLACE FOUND PIXEL KIND COST CPE CPP INKS
+# WIDTH, HEIGHT, MAX_PASSES, NUMBER, PLACE, PASSES, FOUND, PIXEL, KIND: decimal. PPI, DISTANCE, INITIAL,
+# FINAL, ERROR, COST: the bits of an f64, 16 hexadecimal digits. PIXELS, PALETTE, PINNED, INDICES: bytes of
+# 2 hexadecimal digits, or - for none; of refine, the indices afterwards. 16 or more equal bytes one after
+# the other are written as one, x, their number and a comma: 01x4224,00 is 4,224 bytes 01 and one byte 00.
+# Last in a call: the lengths of the lent buffers, decimal; no slice of a call is longer than 16384. Before
+# refine, and again before find, each cell of cpe, cpp and inks holds the bits bff0000000000000 (-1.0), each
+# count 4294967295.
+# COUNTS of refine, the first: those of the passes run, decimal, joined by commas, or - for none. Its last
+# four words and the last three of find are checksums of the buffers afterwards, untouched cells too,
+# 8 hexadecimal digits: h = 0; for each cell, of an f64 first the high and then the low 32 bits, h becomes
 # (31 h + those 32 bits) mod 4294967291.
 #
 # Lists of job calls follow. A list begins with an open; each call is given what the lines before it left.
@@ -47,15 +50,15 @@ const HEADER: &str = "\
 # cell FROM on, so that each tile that is out has a copy of its own. word sets word I of the record, index
 # cell I of the buffer of COPY_INDICES. Before an open, each cell of every buffer is set: floats to -1.0,
 # counts to 4294967295, bytes to 255, words of the record to ffffffffffffffff; then PINNED and INDICES are put.
-# No slice ends behind cell 1024 of its buffer, but CPP (8500) and COPY_CPE (3072).
+# No slice of a list ends behind cell 1024 of its buffer, but CPP (8500) and COPY_CPE (3072).
 ";
 
 /// replay.txt against the list made anew, and against what the library answers.
 pub fn compare() -> Section {
     let mut section = Section::new("lines of replay.txt");
     let lists = [
-        list(expected::refine, expected::measure, &job_lines::EXPECTED),
-        list(library::refine, library::measure, &job_lines::LIBRARY),
+        list(expected::refine, expected::measure, expected::find, &job_lines::EXPECTED),
+        list(library::refine, library::measure, library::find, &job_lines::LIBRARY),
     ];
     let lines = |text: &'static str| text.lines().filter(|line| !line.starts_with('#')).collect::<Vec<_>>();
     let kept = lines(include_str!("replay.txt"));
@@ -70,15 +73,16 @@ pub fn compare() -> Section {
 
 /// The text of replay.txt.
 pub fn text() -> String {
-    HEADER.to_string() + &list(expected::refine, expected::measure, &job_lines::EXPECTED)
+    HEADER.to_string() + &list(expected::refine, expected::measure, expected::find, &job_lines::EXPECTED)
 }
 
-fn list(refine: fn(&Call) -> Refined, measure: fn(&Call) -> Measured, jobs: &Side) -> String {
+fn list(refine: fn(&Call) -> Refined, measure: fn(&Call) -> Measured, find: fn(&Call) -> Found, jobs: &Side) -> String {
     let mut text = String::new();
     for (title, calls) in groups() {
         text += &format!("# {title}\n");
         for call in &calls {
-            text += &format!("{}\n{}\n{}\n", call_line(call), refine_line(&refine(call)), measure_line(&measure(call)));
+            text += &format!("{}\n{}\n", call_line(call), refine_line(&refine(call)));
+            text += &format!("{}\n{}\n", measure_line(&measure(call)), find_line(&find(call)));
         }
     }
     text + &job_replay::text(jobs)
@@ -102,7 +106,6 @@ pub fn input_words(call: &Call) -> String {
 }
 
 fn refine_line(r: &Refined) -> String {
-    let floats = |cells: &[u64]| checksum(cells.iter().flat_map(|&bits| halves(bits)));
     let counts: Vec<_> = r.lent.accepted_per_pass[..r.passes as usize].iter().map(u32::to_string).collect();
     format!(
         "refine {} {} {} {:016x} {:016x} {} {} {:08x} {:08x} {:08x} {:08x}",
@@ -124,8 +127,31 @@ fn measure_line(m: &Measured) -> String {
     format!("measure {} {} {:016x}", m.number, m.place, m.error)
 }
 
+fn find_line(f: &Found) -> String {
+    format!(
+        "find {} {} {} {} {} {:016x} {:08x} {:08x} {:08x}",
+        f.number,
+        f.place,
+        f.found,
+        f.pixel,
+        f.kind,
+        f.cost,
+        floats(&f.lent.cpe),
+        floats(&f.lent.cpp),
+        floats(&f.lent.inks),
+    )
+}
+
+fn floats(cells: &[u64]) -> u64 {
+    checksum(cells.iter().flat_map(|&bits| halves(bits)))
+}
+
 fn hexadecimal(bytes: &[u8]) -> String {
-    or_none(bytes.iter().map(|byte| format!("{byte:02x}")).collect())
+    let written = |equal: &[u8]| match equal.len() {
+        0..16 => equal.iter().map(|byte| format!("{byte:02x}")).collect(),
+        len => format!("{:02x}x{len},", equal[0]),
+    };
+    or_none(bytes.chunk_by(|a, b| a == b).map(written).collect())
 }
 
 fn or_none(word: String) -> String {
@@ -138,12 +164,15 @@ fn or_none(word: String) -> String {
 
 fn groups() -> Vec<(&'static str, Vec<Call>)> {
     let plates = [
-        ("The input of program plate.", vec![program_plate()]),
+        ("The input of program plate, from 1 0 and from 0 1.", program_plates()),
         ("No row; one pixel; one ink.", no_row_one_pixel()),
-        ("Pins: none, the first, the second, both; any byte but 0.", pins()),
+        ("Pins: none, the first, the second, both; any byte but 0; a pinned pixel that would gain.", pins()),
+        ("First moves in the order of a pass: in phase 1, 2, 3, then in two tiles or more.", order_of_pass()),
         ("Equal inks.", equal_inks()),
+        ("A toggle and a swap of equal cost.", vec![equal_kinds()]),
         ("Equal swaps: neighbour codes 0 and 1, 1 and 2, and so on to 6 and 7.", equal_swaps()),
         ("Gains below and just above 1e-9.", small_gains()),
+        ("A gain of exactly 1e-9, as an f64, and of the next f64 above it.", smallest_gains()),
         ("0, 1, 2, 10 and 1,000 passes allowed.", passes()),
         ("The smallest eye, kernel radius 30, 32, and 32 at the limit.", eyes()),
         ("256 inks.", vec![lively(&mut Random(3), 4, 3, 256, allowed(10))]),
@@ -166,10 +195,14 @@ fn groups() -> Vec<(&'static str, Vec<Call>)> {
     groups
 }
 
-const BLACK_WHITE: [u8; 6] = [0, 0, 0, 255, 255, 255];
-
 pub fn allowed(max_passes: u32) -> DbsParams {
     DbsParams { max_passes, ..DbsParams::default() }
+}
+
+fn program_plates() -> Vec<Call> {
+    let mut left = program_plate();
+    left.lent.indices = vec![0, 1];
+    vec![program_plate(), left]
 }
 
 fn no_row_one_pixel() -> Vec<Call> {
@@ -184,7 +217,21 @@ fn no_row_one_pixel() -> Vec<Call> {
 
 fn pins() -> Vec<Call> {
     let masks: [&[u8]; 4] = [&[0, 0], &[128, 0], &[0, 3], &[255, 16]];
-    masks.map(|pinned| call(2, 1, &[20, 20, 90, 250, 240, 190], &BLACK_WHITE, &[1, 0], pinned, allowed(10))).to_vec()
+    let plate = |pinned| call(2, 1, &[20, 20, 90, 250, 240, 190], &BLACK_WHITE, &[1, 0], pinned, allowed(10));
+    let gains = call(2, 1, &[255; 6], &BLACK_WHITE, &[0, 0], &[1, 0], allowed(10));
+    masks.map(plate).into_iter().chain([gains]).collect()
+}
+
+fn order_of_pass() -> Vec<Call> {
+    let plate = |width, height, black: &[[u64; 2]]| black_pixels(width, height, black, allowed(10));
+    vec![
+        plate(65, 1, &[[64, 0]]),
+        plate(1, 65, &[[0, 64]]),
+        plate(65, 65, &[[64, 64]]),
+        plate(65, 2, &[[64, 0], [0, 1]]),
+        plate(129, 1, &[[64, 0], [128, 0]]),
+        plate(65, 65, &[[64, 0], [0, 64], [64, 64]]),
+    ]
 }
 
 /// Inks 1 and 2 are equal: of equal costs the first counts.
@@ -197,6 +244,12 @@ fn equal_inks() -> Vec<Call> {
         .to_vec()
 }
 
+/// The first pixel gains as much by either: the second changes between inks as near to what it should be.
+fn equal_kinds() -> Call {
+    let eye = DbsParams { max_passes: 10, ..eye(10.0, 40.0) };
+    call(2, 1, &[2, 2, 2, 1, 1, 1], &[0, 0, 0, 2, 2, 2], &[0, 1], &[], eye)
+}
+
 fn small_gains() -> Vec<Call> {
     let (pink, brown, blue) = ([200, 40, 90], [150, 148, 104], [14, 152, 204]);
     let panel = [25, 30, 33, 232, 232, 232];
@@ -205,6 +258,19 @@ fn small_gains() -> Vec<Call> {
         call(2, 1, [pink, pink].as_flattened(), &BLACK_WHITE, &[0, 1], &[], allowed(10)),
         call(3, 2, [brown, brown, brown, blue, brown, blue].as_flattened(), &panel, &[1, 0, 1, 0, 0, 0], &[], eye),
     ]
+}
+
+/// Found by a search. The first pixel should be about halfway between the inks: what reaches it of the other
+/// errors decides. The last two pixels reach it in chrominance alone, in which the inks, greys, differ by roundings.
+fn smallest_gains() -> Vec<Call> {
+    let first = [[29, 195, 159], [233, 151, 120], [23, 179, 253]];
+    let eye = DbsParams { max_passes: 10, ..eye(40.0, 40.0) };
+    [[[33, 194, 126], [20, 193, 151]], [[111, 191, 37], [228, 142, 225]]]
+        .map(|last| {
+            let pixels = [&first[..], &last].concat();
+            call(5, 1, pixels.as_flattened(), &[170, 170, 170, 176, 176, 176], &[0; 5], &[], eye)
+        })
+        .to_vec()
 }
 
 /// The first random plate that the copy of the Rust moves in two passes or more.
@@ -258,7 +324,7 @@ fn refusals(plate: &Call) -> Vec<Call> {
     let [_, at, above] = around(|e| 2.5 * eye_sigmas(e)[1], 16.0, 10);
     let [below, ..] = around(|e| eye_sigmas(e)[0], 0.05, 10);
     let look = |c: &mut Call, e: DbsParams| (c.ppi, c.viewing_distance_cm) = (e.ppi, e.viewing_distance_cm);
-    let changes: [&dyn Fn(&mut Call); 29] = [
+    let changes: [&dyn Fn(&mut Call); 31] = [
         &|c| c.width = 0,
         &|c| c.width = 4097,
         &|c| c.height = 4097,
@@ -287,6 +353,8 @@ fn refusals(plate: &Call) -> Vec<Call> {
         &|c| (c.palette.truncate(2), c.lent.indices.fill(9)).1,
         &|c| (c.lent.indices[1], c.ppi, c.viewing_distance_cm) = (7, 0.0, 0.0),
         &|c| (look(c, at), c.max_passes = 1001, c.lent.cpe.truncate(0)).0,
+        &|c| (look(c, below), c.lent.cpe.truncate(5), c.lent.inks.truncate(0)).0,
+        &|c| (look(c, above), c.lent.cpp.truncate(8449)).0,
         &|c| (c.lent.cpp.push((-1.0_f64).to_bits()), c.lent.inks.truncate(1)).0,
     ];
     changes

@@ -1,5 +1,6 @@
-/* Faults for host/test, linked with --wrap: of the calls of calloc, pthread_create or dbs_work the one fails, counted
-   from 1, that FAIL_CALLOC, FAIL_PTHREAD_CREATE or FAIL_DBS_WORK in the environment names. */
+/* Faults for host/test, linked with --wrap: of the calls of calloc, pthread_create, dbs_work or dbs_find_move the one
+   fails, counted from 1, that FAIL_CALLOC, FAIL_PTHREAD_CREATE, FAIL_DBS_WORK or FAIL_DBS_FIND_MOVE in the environment
+   names. */
 #include <errno.h>
 #include <pthread.h>
 #include <stdatomic.h>
@@ -48,4 +49,22 @@ dbs_worked __wrap_dbs_work(WORK_ARGUMENTS)
         return (dbs_worked){ .number = 13 };
     return __real_dbs_work(record, record_len, tile, pinned, pinned_len, cpp, cpp_len, copy_cpe, copy_cpe_len,
                            copy_indices, copy_indices_len, inks, inks_len);
+}
+
+#define FIND_ARGUMENTS                                                                                                \
+    const uint8_t *pixels, size_t pixels_len, uint64_t width, uint64_t height, const uint8_t *palette,               \
+        size_t palette_len, const dbs_index *indices, size_t indices_len, const uint8_t *pinned, size_t pinned_len,  \
+        double ppi, double viewing_distance_cm, double *cpe, size_t cpe_len, double *cpp, size_t cpp_len,            \
+        double *inks, size_t inks_len
+
+dbs_found __real_dbs_find_move(FIND_ARGUMENTS);
+dbs_found __wrap_dbs_find_move(FIND_ARGUMENTS);
+
+dbs_found __wrap_dbs_find_move(FIND_ARGUMENTS)
+{
+    static atomic_int calls;
+    if (fails("FAIL_DBS_FIND_MOVE", &calls))
+        return (dbs_found){ .number = 11, .place = 8 };
+    return __real_dbs_find_move(pixels, pixels_len, width, height, palette, palette_len, indices, indices_len, pinned,
+                                pinned_len, ppi, viewing_distance_cm, cpe, cpe_len, cpp, cpp_len, inks, inks_len);
 }

@@ -21,6 +21,20 @@ static void print_pass(const struct pass *pass)
     fflush(stdout);
 }
 
+static bool print_first_move(const struct input *input, struct result *result)
+{
+    dbs_found found;
+    if (!find_move(input, result, &found))
+        return false;
+    if (found.found == 0)
+        puts("start: settled, no move would be accepted");
+    else
+        printf("start: not settled, first move at pixel %" PRIu64 " (column %" PRIu64 ", row %" PRIu64 "): %s, "
+               "cost %.9g\n", found.pixel, found.pixel % input->width, found.pixel / input->width,
+               found.kind == DBS_SWAP ? "swap" : "toggle", found.cost);
+    return true;
+}
+
 static bool print_measured(const struct input *input, const char *what, const dbs_index *indices)
 {
     dbs_measured answer = perceived_error(input->pixels.at, input->pixels.len, input->width, input->height,
@@ -69,6 +83,8 @@ static int write_results(const struct options *options, const struct input *inpu
 
 static int refine(const struct options *options, const struct input *input, struct result *result)
 {
+    if (options->find_move && !print_first_move(input, result))
+        return FAILED;
     if (!refine_shared(input, (unsigned)options->threads, options->seed, print_pass, result))
         return FAILED;
     printf("error %.9g before, %.9g after %" PRIu64 " passes\n", result->initial_error, result->final_error,

@@ -28,6 +28,8 @@ void print_usage(void)
           "  --out-indices FILE  write the refined indices, a byte for each pixel\n"
           "  --out-start FILE.ppm\n"
           "                      write the halftone that was started from\n"
+          "  --settled           also print whether the start is settled, or else the first move that a\n"
+          "                      pass would accept\n"
           "  --measure           also print perceived_error of the start and of the result\n"
           "  --no-check          do not run dbs_refine to compare with\n"
           "  --help              print this\n"
@@ -97,6 +99,7 @@ bool parse_options(int count, char **words, struct options *options)
         { "--out", WORD, &options->out },
         { "--out-indices", WORD, &options->out_indices },
         { "--out-start", WORD, &options->out_start },
+        { "--settled", FLAG, &options->find_move },
         { "--measure", FLAG, &options->measure },
         { "--no-check", FLAG, &options->no_check },
         { "--help", FLAG, &options->help },

@@ -10,7 +10,7 @@ struct options {
     const char *out, *out_indices, *out_start;        /* files to write */
     double ppi, viewing_distance_cm;
     uint64_t max_passes, threads, seed;
-    bool measure, no_check, help;
+    bool find_move, measure, no_check, help;
 };
 
 /* False after a message. */

@@ -32,6 +32,16 @@ void free_result(struct result *result)
     free(result->accepted_per_pass);
 }
 
+bool find_move(const struct input *input, struct result *result, dbs_found *found)
+{
+    *found = dbs_find_move(input->pixels.at, input->pixels.len, input->width, input->height,
+                           input->palette.at, input->palette.len, input->indices.at, input->indices.len,
+                           input->pinned.at, input->pinned.len, input->ppi, input->viewing_distance_cm,
+                           result->cpe, input->pixels.len, result->cpp, DBS_KERNEL_STORE_LEN,
+                           result->inks, input->palette.len);
+    return accepted("dbs_find_move", found->number, found->place, input->width);
+}
+
 bool refine_alone(const struct input *input, struct result *result)
 {
     dbs_stats stats = dbs_refine(input->pixels.at, input->pixels.len, input->width, input->height,

@@ -20,6 +20,10 @@ bool prepare_result(const struct input *input, struct result *result);
 
 void free_result(struct result *result);
 
+/* The first move that a pass from the input's start would accept. Uses floats of the result, which a refinement fills
+   anew. False after a message. */
+bool find_move(const struct input *input, struct result *result, dbs_found *found);
+
 /* Refines by dbs_refine. False after a message. */
 bool refine_alone(const struct input *input, struct result *result);
 

@@ -1,7 +1,8 @@
-// Calls of refine and of measure: a line of compare/replay.txt is a call of both on parts of buffers, and their answers are
-// written in that file's form. In a line, numbers from 0 count its words.
+// Calls of refine, of measure and of find_move: a line of compare/replay.txt is a call of each on parts of buffers, and their
+// answers are written in that file's form. In a line, numbers from 0 count its words.
 use accepted::DbsStats;
 use base::Index;
+use found::DbsFound;
 use given::Given;
 use perceived::Measured;
 
@@ -63,6 +64,20 @@ fn print_measured(m: Measured) {
     lines::end_line();
 }
 
+fn print_found(f: DbsFound, cpe: &[f64], cpp: &[f64], inks: &[f64]) {
+    io::write_all(STDOUT, b"find");
+    lines::print_number(f.number);
+    lines::print_number(f.place);
+    lines::print_number(f.found);
+    lines::print_number(f.pixel);
+    lines::print_number(f.kind);
+    lines::print_float(f.cost);
+    given::print_floats(cpe);
+    given::print_floats(cpp);
+    given::print_floats(inks);
+    lines::end_line();
+}
+
 // The indices are refined in a buffer of their own.
 fn refine(
     line: &[u8],
@@ -111,7 +126,27 @@ fn measure(line: &[u8], g: Given, given: &[u8]) {
     print_measured(m);
 }
 
-fn call_in(
+fn find(line: &[u8], g: Given, given: &[u8], cpe: &mut [f64], cpp: &mut [f64], inks: &mut [f64]) {
+    let cpe = lines::floats(line, 10, cpe, 0);
+    let cpp = lines::floats(line, 11, cpp, 0);
+    let inks = lines::floats(line, 13, inks, 0);
+    let f = dbs::dbs_find_move(
+        given::pixels(given, g),
+        lines::number(line, 1),
+        lines::number(line, 2),
+        given::palette(given, g),
+        given::indices(given, g),
+        given::pinned(given, g),
+        lines::float(line, 4),
+        lines::float(line, 5),
+        cpe,
+        cpp,
+        inks,
+    );
+    print_found(f, cpe, cpp, inks);
+}
+
+fn refine_in(
     text: &[u8],
     given: &mut [u8],
     indices: &mut [Index],
@@ -128,15 +163,23 @@ fn call_in(
     measure(line, g, given);
 }
 
+fn find_in(text: &[u8], given: &mut [u8], cpe: &mut [f64], cpp: &mut [f64], inks: &mut [f64]) {
+    let from = 0;
+    let end = lines::line_end(text, from);
+    let line = &text[from..end];
+    let g = given::read_given(line, given);
+    find(line, g, given, cpe, cpp, inks);
+}
+
 // A call finds each cell of every buffer set.
-pub fn call(text: &[u8]) {
-    let mut given = [255u8; 4096];
-    let mut indices = [255u8; 1024];
-    let mut cpe = [-1.0f64; 1024];
+fn call_refine(text: &[u8]) {
+    let mut given = [255u8; 65536];
+    let mut indices = [255u8; 16384];
+    let mut cpe = [-1.0f64; 16384];
     let mut cpp = [-1.0f64; 8500];
     let mut counts = [4294967295u32; 1024];
     let mut inks = [-1.0f64; 1024];
-    call_in(
+    refine_in(
         text,
         &mut given,
         &mut indices,
@@ -145,4 +188,17 @@ pub fn call(text: &[u8]) {
         &mut counts,
         &mut inks,
     );
+}
+
+fn call_find(text: &[u8]) {
+    let mut given = [255u8; 65536];
+    let mut cpe = [-1.0f64; 16384];
+    let mut cpp = [-1.0f64; 8500];
+    let mut inks = [-1.0f64; 1024];
+    find_in(text, &mut given, &mut cpe, &mut cpp, &mut inks);
+}
+
+pub fn call(text: &[u8]) {
+    call_refine(text);
+    call_find(text);
 }

@@ -5,6 +5,7 @@ use accepted::DbsStats;
 use base::Index;
 use base::Status;
 use eye::DbsParams;
+use found::DbsFound;
 use perceived::Measured;
 use work::DbsWorked;
 ghost use mathlib.Core.List.{[]};
@@ -13,6 +14,7 @@ ghost use Rattle.progress.specs.Progress.{progressOf};
 ghost use Rattle.input.specs.Input.{input};
 ghost use Rattle.perceived.specs.Perceived.{measureOf};
 ghost use Rattle.refine.specs.Refine.{refinement, refineOf};
+ghost use Rattle.findmove.specs.FindMove.{finding, findOf};
 ghost use Rattle.base.specs.Refusal.{status};
 ghost use Rattle.tile.specs.Tile.{state};
 ghost use Rattle.job.specs.Copy.{pixels};
@@ -81,6 +83,41 @@ pub extern "C" fn perceived_error(
         ppi,
     };
     perceived::measure(pixels, width, height, palette, indices, params)
+}
+
+// The first pixel, in the order of a whole pass, at which a move would be accepted.
+#[no_mangle]
+pub extern "C" fn dbs_find_move(
+    pixels: &[u8],
+    width: u64,
+    height: u64,
+    palette: &[u8],
+    indices: &[Index],
+    pinned: &[u8],
+    ppi: f64,
+    viewing_distance_cm: f64,
+    cpe: &mut [f64],
+    cpp: &mut [f64],
+    inks: &mut [f64],
+) -> DbsFound
+    ensures { λ r. ⌜ finding r (now (cpe .exit)) (now (cpp .exit)) (now (inks .exit)) ≡ findOf (input width height (now (pixels .entry)) (now (palette .entry)) (now (indices .entry)) (now (pinned .entry)) (record { «viewing_distance_cm» = «viewing_distance_cm»; ppi = ppi })) (now (cpe .entry)) (now (cpp .entry)) (now (inks .entry)) ⌝ }
+{
+    let params = DbsParams {
+        viewing_distance_cm,
+        ppi,
+    };
+    findmove::find_move(
+        pixels,
+        width,
+        height,
+        palette,
+        indices,
+        pinned,
+        params,
+        cpe,
+        cpp,
+        inks,
+    )
 }
 
 // Open a job: everything up to the walk.

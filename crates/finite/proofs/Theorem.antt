@@ -9,20 +9,23 @@ use Rattle.bounds.specs.Number.{Number, Numbers}
 use Rattle.bounds.proofs.Bits.{no-nan, one-bits, same-bits, same-bits-all}
 use Rattle.input.specs.Input.{Input}
 use Rattle.refine.specs.Refine.{Refinement, refineOf}
+use Rattle.findmove.specs.FindMove.{Finding, findOf}
 use Rattle.job.specs.Words.{encode, wordOver, rewritten}
 use Rattle.job.specs.Open.{Opening}
 use Rattle.job.specs.Boundary.{openRun}
 use Rattle.job.specs.Runs.{Call, Job, rec, start, after, closesAfter}
 use Rattle.job.specs.Claim.{workOn, SameJob, Along, phases}
 use Rattle.job.proofs.Demand3.{demand3}
-use Rattle.finite.specs.Finite.{BufferNumbers, RefinedNumbers, JobNumbers, AlongNumbers, Finiteness}
-use Rattle.finite.specs.InBits.{AllOneBits, BufferBits, RefinedBits, SameInBits, JobBits, AlongBits, InBits}
+use Rattle.finite.specs.Finite.{BufferNumbers, RefinedNumbers, FoundNumbers, JobNumbers, AlongNumbers, Finiteness}
+use Rattle.finite.specs.InBits.{AllOneBits, BufferBits, RefinedBits, FoundBits, SameInBits, JobBits, AlongBits, InBits}
 use Rattle.finite.proofs.Answers.{refine-run, refine-numbers, measure-numbers}
+use Rattle.finite.proofs.Found.{find-numbers}
 use Rattle.finite.proofs.Jobs.{job-run}
 
 pub finiteness : Finiteness
 finiteness = record {
   refines = λ I passes cpe cpp counts inks e. (refine-run I passes cpe cpp counts inks e, refine-numbers I passes cpe cpp counts inks e);
+  finds = find-numbers;
   measures = measure-numbers;
   jobs = job-run;
 }
@@ -42,6 +45,9 @@ buffer-bits I cpe cpp inks n = record {
 
 refined-bits : (I : Input) (R : Refinement) → RefinedNumbers I R → RefinedBits I R
 refined-bits I R n = record { buffers = buffer-bits I (R .cpe) (R .cpp) (R .inks) (n .buffers); initial = one-bits _ (n .initial); final = one-bits _ (n .final) }
+
+found-bits : (I : Input) (F : Finding) (cpp : List Float) → FoundNumbers I cpp F → FoundBits I F
+found-bits I F cpp n = record { buffers = buffer-bits I (F .cpe) (F .cpp) (F .inks) (n .buffers); cost = one-bits _ (n .cost) }
 
 same-in-bits : (words : List ℕ) (O : Opening) (J : Job) (w : Walk) → JobNumbers words O J → SameJob J w → SameInBits J w
 same-in-bits words O J w n s = record { cpe = same-bits-all (J .image .cpe) (w .now .cpe) (n .cpe) (s .cpe); error = same-bits (rec J .error) (w .now .run .error) (n .error) (s .error) }
@@ -77,6 +83,7 @@ along-bits words O (c ∷ cs) m J n a = (
 pub in-bits : InBits
 in-bits = record {
   refines = λ I passes cpe cpp counts inks e. refined-bits I (refineOf I passes cpe cpp counts inks) (refine-numbers I passes cpe cpp counts inks e);
+  finds = λ I cpe cpp inks e. found-bits I (findOf I cpe cpp inks) cpp (find-numbers I cpe cpp inks e);
   measures = λ I e. one-bits _ (measure-numbers I e .error);
   opening = λ words O ok.
       let n = job-run words O ok in

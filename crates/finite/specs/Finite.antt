@@ -1,4 +1,4 @@
--- FINITENESS: no float that stems from an accepted refine, measure or open is a NaN or an infinity: ink values, kernels, errors, the field, the costs
+-- FINITENESS: no float that stems from an accepted refine, measure, find_move or open is a NaN or an infinity: ink values, kernels, errors, the field, the costs
 -- weighed, deltas, copies and the initial and final errors, after every phase of the plain walk and after every call of every fair list on the opened job.
 -- Each is made of the very definitions that the functions' contracts cite. Document 01 leaves floats undecided only 'where these stem from no open'.
 use Prim.Native.Nat.{ℕ, _<_}
@@ -29,6 +29,7 @@ use Rattle.input.specs.Input.{Input}
 use Rattle.prepare.specs.Prepare.{tilingOf, inksOf, cppOf, sceneOf, cpeOf, errorOf, sharedOf, runOne}
 use Rattle.refine.specs.Refine.{Refinement, refineStatus, refineOf}
 use Rattle.perceived.specs.Perceived.{measureStatus, measureOf}
+use Rattle.findmove.specs.FindMove.{Finding, findStatus, findOf}
 use Rattle.job.specs.Record.{jobShared}
 use Rattle.job.specs.Words.{decode}
 use Rattle.job.specs.Open.{Opening, Opened}
@@ -82,7 +83,7 @@ pub record RunNumbers (I : Input) (passes : ℕ) (cpp : List Float) : Type 0 whe
 
 -- ---- what refine leaves
 
--- the lent buffers of floats that refine and open write: field, kernel store and ink values
+-- the lent buffers of floats that refine, find_move and open write: field, kernel store and ink values
 pub record BufferNumbers (I : Input) (cpe cpp inks : List Float) : Type 0 where
   pub field : Numbers cpe
   pub kernels : StoreNumbers (tilingOf I) cpp
@@ -92,6 +93,15 @@ pub record RefinedNumbers (I : Input) (R : Refinement) : Type 0 where
   pub buffers : BufferNumbers I (R .cpe) (R .cpp) (R .inks)
   pub initial : Number (R .stats .«initial_error»)
   pub final : Number (R .stats .«final_error»)
+
+-- ---- what find_move leaves and answers
+
+pub record FoundNumbers (I : Input) (cpp : List Float) (F : Finding) : Type 0 where
+  pub buffers : BufferNumbers I (F .cpe) (F .cpp) (F .inks)
+  -- of what is found, and 0.0 where nothing is
+  pub cost : Number (F .answer .cost)
+  -- every cost that the search may weigh
+  pub weighed : (x y : ℕ) → x < I .width → y < I .height → Weighed (sharedOf I cpp) (image (tilingOf I)) x y (state (cpeOf I cpp) (I .indices) noProgress)
 
 -- ---- what measure reads and answers: ink values, errors and both blurs of the eye
 
@@ -145,5 +155,6 @@ pub record JobRunNumbers (words : List ℕ) (O : Opening) : Type 0 where
 pub record Finiteness : Type 0 where
   pub refines : (I : Input) (passes : ℕ) (cpe cpp : List Float) (counts : List ℕ) (inks : List Float) → refineStatus (refineOf I passes cpe cpp counts inks) ≡ accepted →
       RunNumbers I passes cpp × RefinedNumbers I (refineOf I passes cpe cpp counts inks)
+  pub finds : (I : Input) (cpe cpp inks : List Float) → findStatus (findOf I cpe cpp inks) ≡ accepted → FoundNumbers I cpp (findOf I cpe cpp inks)
   pub measures : (I : Input) → measureStatus (measureOf I) ≡ accepted → MeasuredNumbers I
   pub jobs : (words : List ℕ) (O : Opening) → openRun words O .status ≡ accepted → JobRunNumbers words O

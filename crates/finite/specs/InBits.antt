@@ -15,6 +15,7 @@ use Rattle.input.specs.Input.{Input}
 use Rattle.prepare.specs.Prepare.{tilingOf}
 use Rattle.refine.specs.Refine.{Refinement, refineStatus, refineOf}
 use Rattle.perceived.specs.Perceived.{measureStatus, measureOf}
+use Rattle.findmove.specs.FindMove.{Finding, findStatus, findOf}
 use Rattle.job.specs.Words.{encode, rewritten}
 use Rattle.job.specs.Open.{Opening}
 use Rattle.job.specs.Boundary.{openRun}
@@ -27,7 +28,7 @@ AllOneBits l = (i : ℕ) → i < length l → OneBits (getD l i nan)
 abbrev pub KernelBits : List Float → Kernel2D → Type 0
 KernelBits cpp k = (i j : ℕ) → i < size k → j < size k → OneBits (kernelAt cpp k i j)
 
--- the lent buffers of floats that refine and open write
+-- the lent buffers of floats that refine, find_move and open write
 pub record BufferBits (I : Input) (cpe cpp inks : List Float) : Type 0 where
   pub field : AllOneBits cpe
   pub lum : KernelBits cpp (lumKernel (tilingOf I))
@@ -39,6 +40,11 @@ pub record RefinedBits (I : Input) (R : Refinement) : Type 0 where
   pub buffers : BufferBits I (R .cpe) (R .cpp) (R .inks)
   pub initial : OneBits (R .stats .«initial_error»)
   pub final : OneBits (R .stats .«final_error»)
+
+-- what find_move leaves and answers
+pub record FoundBits (I : Input) (F : Finding) : Type 0 where
+  pub buffers : BufferBits I (F .cpe) (F .cpp) (F .inks)
+  pub cost : OneBits (F .answer .cost)
 
 -- both runs: 'every bit of the field', 'every bit of the error'
 pub record SameInBits (J : Job) (w : Walk) : Type 0 where
@@ -67,6 +73,7 @@ AlongBits words O m J (c ∷ cs) =
 pub record InBits : Type 0 where
   pub refines : (I : Input) (passes : ℕ) (cpe cpp : List Float) (counts : List ℕ) (inks : List Float) → refineStatus (refineOf I passes cpe cpp counts inks) ≡ accepted →
       RefinedBits I (refineOf I passes cpe cpp counts inks)
+  pub finds : (I : Input) (cpe cpp inks : List Float) → findStatus (findOf I cpe cpp inks) ≡ accepted → FoundBits I (findOf I cpe cpp inks)
   pub measures : (I : Input) → measureStatus (measureOf I) ≡ accepted → OneBits (measureOf I .error)
   pub opening : (words : List ℕ) (O : Opening) → openRun words O .status ≡ accepted →
       BufferBits (O .input) (openRun words O .cpe) (openRun words O .cpp) (openRun words O .inks) × JobBits words O (start words O) × SameInBits (start words O) (phases O 0)

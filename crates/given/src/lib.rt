@@ -4,14 +4,14 @@ use base::Status;
 
 const STDOUT: i32 = 1;
 
-// Room for 1,024 of each, and where it begins.
-const ROOM: usize = 1024;
+// Room for 16,384 of each, and where it begins.
+const ROOM: usize = 16384;
 
-const PALETTE: usize = 1024;
+const PALETTE: usize = 16384;
 
-pub const PINNED: usize = 2048;
+pub const PINNED: usize = 32768;
 
-pub const INDICES: usize = 3072;
+pub const INDICES: usize = 49152;
 
 // How many bytes of each a line has.
 pub struct Given {

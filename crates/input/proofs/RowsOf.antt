@@ -1,4 +1,4 @@
--- What refine, open and measure answer, by rows: each test means its line, and the first unnamed index is the lowest. Assumes nothing.
+-- What refine, find_move, open and measure answer, by rows: each test means its line, and the first unnamed index is the lowest. Assumes nothing.
 use Prim.Native.Nat.{ℕ, _*_, _/_, _≤_}
 use native.Mathlib.Omega.{arith}
 use mathlib.Core.Path.{refl, sym, _∙_}
@@ -16,8 +16,8 @@ use Rattle.base.proofs.RowLaws.{Decides, decided, at-lowest, no-row, told, tell
 use Rattle.eye.specs.declared.DbsParams.{DbsParams}
 use Rattle.eye.specs.Eye.{eyeTests}
 use Rattle.fits.specs.Fits.{maskFits, paletteFits, firstUnnamed}
-use Rattle.input.specs.Input.{Input, input, pixelCount, inkCount, imageTests, inkTests, inputTests, runTests, refineRunTests, openRunTests, refineTests, openTests}
-use Rattle.input.specs.Rows.{row6, row7, row8, row9, imageRows, inkRows, measureRows, inputRows, refineRows, openRows}
+use Rattle.input.specs.Input.{Input, input, pixelCount, inkCount, imageTests, inkTests, inputTests, runTests, refineRunTests, openRunTests, findRunTests, refineTests, findTests, openTests}
+use Rattle.input.specs.Rows.{row6, row7, row8, row9, imageRows, inkRows, measureRows, inputRows, refineRows, findRows, openRows}
 use Rattle.fits.proofs.FirstUnnamed.{first-is, named-of}
 use Rattle.fits.proofs.Limits.{palette-iff}
 use Rattle.input.proofs.EyeValidity.{finite-positive-iff}
@@ -81,6 +81,13 @@ module _ (I : Input) (passes cpe cpp counts inks : ℕ) where
       (by-lines
       (tells (denied (ne cpe (3 * pixelCount I))) (tells (denied (ne cpp cppLength)) (tells (denied (ne counts passes)) (tells (denied (ne inks (3 * inkCount I))) told))))
       (omega arith) decided))
+
+module _ (I : Input) (cpe cpp inks : ℕ) where
+  pub find-rows : Decides (findTests I cpe cpp inks) (findRows I cpe cpp inks)
+  unfolding findTests findRunTests findRows Rises
+  find-rows =
+      input-rows I
+      (by-lines (tells (denied (ne cpe (3 * pixelCount I))) (tells (denied (ne cpp cppLength)) (tells (denied (ne inks (3 * inkCount I))) told))) (omega arith) decided)
 
 module _ (I : Input) (passes tiles cpe cpp counts states deltas inks : ℕ) where
   pub open-rows : Decides (openTests I passes tiles cpe cpp counts states deltas inks) (openRows I passes tiles cpe cpp counts states deltas inks)

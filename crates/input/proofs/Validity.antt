@@ -12,8 +12,8 @@ use Rattle.base.proofs.RefusalLaws.{Numbered, accepted-of}
 use Rattle.eye.specs.Constants.{alphaLum, alphaChroma}
 use Rattle.eye.specs.Eye.{eyeTests, kernelRadius, KernelRadius}
 use Rattle.eye.proofs.EyeLaws.{radii-fit}
-use Rattle.input.specs.Input.{Input, pixelCount, inkCount, imageTests, inkTests, inputTests, lengthTest, runTests, refineRunTests, openRunTests, refineTests, openTests}
-use Rattle.input.specs.Valid.{Valid, ValidRefine, ValidOpen}
+use Rattle.input.specs.Input.{Input, pixelCount, inkCount, imageTests, inkTests, inputTests, lengthTest, runTests, refineRunTests, openRunTests, findRunTests, refineTests, findTests, openTests}
+use Rattle.input.specs.Valid.{Valid, ValidFind, ValidRefine, ValidOpen}
 use Rattle.base.proofs.JudgeLaws.{accepted-iff, passes-append}
 use Rattle.fits.proofs.FirstUnnamed.{named-of, of-named}
 use Rattle.fits.proofs.Limits.{size-iff, length-iff, mask-iff, palette-iff}
@@ -101,6 +101,29 @@ module _ (I : Input) (passes cpe cpp counts inks : ℕ) where
   -- what refine accepts
   pub refine-valid-iff : (judge (refineTests I passes cpe cpp counts inks) ≡ accepted) ↔ ValidRefine I passes cpe cpp counts inks
   refine-valid-iff = Iff·trans (accepted-iff _ refine-numbered) refine-passes
+
+module _ (I : Input) (cpe cpp inks : ℕ) where
+  find-of : Valid I → Passes (findRunTests (3 * pixelCount I) (3 * inkCount I) cpe cpp inks) → ValidFind I cpe cpp inks
+  unfolding findRunTests Passes
+  find-of v p = record { valid = v; cpe-length = length-iff _ _ .0 (p .0); cpp-length = length-iff _ _ .0 (p .1 .0); inks-length = length-iff _ _ .0 (p .1 .1 .0) }
+
+  of-find : ValidFind I cpe cpp inks → Passes (findRunTests (3 * pixelCount I) (3 * inkCount I) cpe cpp inks)
+  unfolding findRunTests Passes
+  of-find v = (length-iff _ _ .1 (v .cpe-length), (length-iff _ _ .1 (v .cpp-length), (length-iff _ _ .1 (v .inks-length), tt)))
+
+  pub find-passes : Passes (findTests I cpe cpp inks) ↔ ValidFind I cpe cpp inks
+  unfolding findTests
+  find-passes =
+      let all = passes-append (inputTests I) (findRunTests (3 * pixelCount I) (3 * inkCount I) cpe cpp inks) in
+      (λ p. let q = all .0 p in find-of (valid-of I (q .0)) (q .1), λ v. all .1 (of-valid I (v .valid), of-find v))
+
+  pub find-numbered : Numbered (findTests I cpe cpp inks)
+  unfolding findTests findRunTests inputTests imageTests inkTests eyeTests Numbered
+  find-numbered = omega arith
+
+  -- what find_move accepts
+  pub find-valid-iff : (judge (findTests I cpe cpp inks) ≡ accepted) ↔ ValidFind I cpe cpp inks
+  find-valid-iff = Iff·trans (accepted-iff _ find-numbered) find-passes
 
 module _ (I : Input) (passes tiles cpe cpp counts states deltas inks : ℕ) where
   pub open-passes : Passes (openTests I passes tiles cpe cpp counts states deltas inks) ↔ ValidOpen I passes tiles cpe cpp counts states deltas inks

@@ -1,5 +1,5 @@
--- What refine, measure and open are given, and its tests: rows 1 to 11 of document 01's table of refusals, in order.
--- 'Refine (buffers 1, 2, 3, 8), open (1 to 5, 8) and measure (none) test 1 to 11 in number order, each what it is given.'
+-- What refine, measure, find_move and open are given, and its tests: rows 1 to 11 of document 01's table of refusals, in order.
+-- 'Refine (buffers 1, 2, 3, 8), open (1 to 5, 8) and measure (none) test 1 to 11 in number order, each what it is given'; find_move's buffers are 1, 2 and 8.
 use Prim.Native.Nat.{ℕ, _*_, _/_}
 use mathlib.Core.Bool.{not}
 use mathlib.Core.List.{List, [], _∷_, _++_}
@@ -108,10 +108,18 @@ openRunTests passes cpeWanted inksWanted tiles cpe cpp counts states deltas inks
     ∷ lengthTest 8 inks inksWanted
     ∷ [])
 
+-- row 11 of find_move, which is given no passes and no counts: '1 field', '2 kernels' and '8 ink values' (document 02, F-1: 'less passes, counts, ledger and deltas')
+unfoldable pub findRunTests : ℕ → ℕ → ℕ → ℕ → ℕ → List Test
+findRunTests cpeWanted inksWanted cpe cpp inks = lengthTest 1 cpe cpeWanted ∷ lengthTest 2 cpp cppLength ∷ lengthTest 8 inks inksWanted ∷ []
+
 -- ---- all rows of a call: 'Field: 3n f64', 'ink values (3 f64 per ink)'
 
 unfoldable pub refineTests : Input → ℕ → ℕ → ℕ → ℕ → ℕ → List Test
 refineTests I passes cpe cpp counts inks = inputTests I ++ refineRunTests passes (3 * pixelCount I) (3 * inkCount I) cpe cpp counts inks
+
+-- 'It answers the opening refusals 1 to 9 and 11'
+unfoldable pub findTests : Input → ℕ → ℕ → ℕ → List Test
+findTests I cpe cpp inks = inputTests I ++ findRunTests (3 * pixelCount I) (3 * inkCount I) cpe cpp inks
 
 unfoldable pub openTests : Input → ℕ → ℕ → ℕ → ℕ → ℕ → ℕ → ℕ → ℕ → List Test
 openTests I passes tiles cpe cpp counts states deltas inks =

@@ -1,5 +1,5 @@
--- Rows 1 to 11 of document 01's table of refusals as conditions on what a call is given, each row apart from its tests, and the rows of refine, open and
--- measure in order: they 'test 1 to 11 in number order, each what it is given'. Job calls have rows 3, 4, 6 and 11 too. Lists are told by their lengths
+-- Rows 1 to 11 of document 01's table of refusals as conditions on what a call is given, each row apart from its tests, and the rows of refine, find_move,
+-- open and measure in order: they 'test 1 to 11 in number order, each what it is given'. Job calls have rows 3, 4, 6 and 11 too. Lists are told by their lengths
 -- where no more matters.
 use Prim.Native.Nat.{ℕ, _*_, _≤_, _<_}
 use mathlib.Core.Logic.{_≢_, _⊎_}
@@ -84,6 +84,12 @@ unfoldable pub refineRows : Input → ℕ → ℕ → ℕ → ℕ → ℕ → Li
 refineRows I passes cpe cpp counts inks =
     let buffers : List Line = buffer 1 cpe (3 * pixelCount I) ∷ buffer 2 cpp cppLength ∷ buffer 3 counts passes ∷ buffer 8 inks (3 * inkCount I) ∷ [] in
     inputRows I ++ (row10 passes ∷ row11 buffers ∷ [])
+
+-- find_move: rows 1 to 9 and 11
+unfoldable pub findRows : Input → ℕ → ℕ → ℕ → List Row
+findRows I cpe cpp inks =
+    let buffers : List Line = buffer 1 cpe (3 * pixelCount I) ∷ buffer 2 cpp cppLength ∷ buffer 8 inks (3 * inkCount I) ∷ [] in
+    inputRows I ++ (row11 buffers ∷ [])
 
 -- 'ledger (a byte per tile ..) and deltas (an f64 per tile)'
 unfoldable pub openRows : Input → ℕ → ℕ → ℕ → ℕ → ℕ → ℕ → ℕ → ℕ → List Row

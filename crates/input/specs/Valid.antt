@@ -46,6 +46,13 @@ pub record Valid (I : Input) : Type 0 where
   pub named : (i : ℕ) → i < length (I .indices) → getD (I .indices) i 0 < inkCount I
   pub eye : ValidEye (I .params)
 
+-- a valid input with buffers to weigh its moves in
+pub record ValidFind (I : Input) (cpe cpp inks : ℕ) : Type 0 where
+  pub valid : Valid I
+  pub cpe-length : cpe ≡ 3 * pixelCount I
+  pub cpp-length : cpp ≡ cppLength
+  pub inks-length : inks ≡ 3 * inkCount I
+
 -- a valid input with buffers for a run of so many passes; cpe, cpp, counts and inks are lengths
 pub record ValidRefine (I : Input) (passes cpe cpp counts inks : ℕ) : Type 0 where
   pub valid : Valid I

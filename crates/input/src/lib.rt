@@ -1,4 +1,4 @@
-// The tests of what refine, measure and open are given: refusals 1 to 9 in order, as the lists of
+// The tests of what refine, measure, find_move and open are given: refusals 1 to 9 in order, as the lists of
 // specs/Input.antt have them; 10 and 11 are in the crate `sizes`. Every function takes any numbers and slices of any length: the size is
 // tested before anything is multiplied. An input is accepted exactly where it is valid
 // (specs/Valid.antt, proofs/Validity.antt).

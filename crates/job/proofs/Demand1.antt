@@ -20,6 +20,7 @@ use Rattle.fits.proofs.Limits.{length-iff}
 use Rattle.input.proofs.Validity.{open-numbered, open-passes}
 use Rattle.refine.proofs.Promises.{refine-judged, run-ends}
 use Rattle.perceived.proofs.Laws.{measure-judged}
+use Rattle.findmove.proofs.Laws.{find-judged}
 use Rattle.tile.specs.Tile.{State}
 use Rattle.job.specs.declared.JobRecord.{JobRecord}
 use Rattle.job.specs.Record.{recordTests}
@@ -123,6 +124,7 @@ demand1 = record {
   refines = refine-judged;
   ends = run-ends;
   measures = measure-judged;
+  finds = find-judged;
   opens = open-judged;
   takes = take-judged;
   works = work-judged;

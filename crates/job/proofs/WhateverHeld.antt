@@ -12,14 +12,19 @@ use Rattle.base.specs.declared.Status.{Status}
 use Rattle.base.specs.Loop.{overwrite}
 use Rattle.base.specs.Refusal.{judge, accepted, isAccepted}
 use Rattle.tiling.specs.Tiling.{tile, region}
-use Rattle.input.specs.Input.{Input, inputTests, refineTests}
+use Rattle.input.specs.Input.{Input, inputTests, refineTests, findTests}
 use Rattle.input.specs.Valid.{ValidRefine}
-use Rattle.input.proofs.Validity.{valid-iff, refine-valid-iff}
+use Rattle.input.proofs.Validity.{valid-iff, refine-valid-iff, find-valid-iff}
 use Rattle.tile.specs.Tile.{state, noProgress}
 use Rattle.prepare.specs.Prepare.{tilingOf, cppOf, cpeOf, errorOf, runOne}
 use Rattle.prepare.specs.SameKernels.{SameKernels}
 use Rattle.prepare.proofs.SameKernels.{tile-same, same-kernels, same-cpe, same-error, same-run}
 use Rattle.refine.specs.Refine.{refinement, refusedStats, refineAccepted, refineOf}
+use Rattle.firstmove.specs.declared.First.{First}
+use Rattle.found.specs.declared.Answer.the-variants.{Searched}
+use Rattle.found.specs.Found.{foundOf}
+use Rattle.findmove.specs.FindMove.{searchAccepted, found, refused, findOf}
+use Rattle.findmove.proofs.SameFirst.{same-first}
 use Rattle.job.specs.Record.{jobShared}
 use Rattle.job.specs.Words.{runTest, decode, encode}
 use Rattle.job.specs.Copy.{Pixels, refinedCopy}
@@ -28,7 +33,7 @@ use Rattle.job.specs.Open.{Opening, Opened, opened, openTestsOf, firstRe
 use Rattle.job.specs.Work.{workTests, workOf}
 use Rattle.job.specs.Boundary.{openedOver, wordsOpened, openRun, onRun, workRun}
 use Rattle.job.specs.Claim.{phases}
-use Rattle.job.specs.WhateverHeld.{RefinesAlike, AskAlike, SameOpened, OpensAlike, WhateverHeld}
+use Rattle.job.specs.WhateverHeld.{RefinesAlike, FindsAlike, AskAlike, SameOpened, OpensAlike, WhateverHeld}
 use Rattle.base.proofs.AnswerLaws.{accepted-is, is-accepted}
 use Rattle.job.proofs.Opened.{leaves, opens as run-opens, valid}
 
@@ -70,6 +75,32 @@ module _ (I : Input) (passes : ℕ) (cpp cpp′ : List Float) (counts counts′ 
     refines : RefinesAlike (tilingOf I) (refineOf I passes cpe cpp counts inks) (refineOf I passes cpe′ cpp′ counts′ inks′)
     unfolding refineOf
     refines = rw (a, b, c, d) (judged-alike (isAccepted verdict) refl)
+
+-- ---- find_move
+
+module _ (I : Input) (cpp cpp′ : List Float) where
+  searched-alike : judge (inputTests I) ≡ accepted → length cpp ≡ cppLength → length cpp′ ≡ cppLength → FindsAlike (tilingOf I) (found (searchAccepted I cpp)) (found (searchAccepted I cpp′))
+  unfolding searchAccepted
+  searched-alike ok room room′ = record {
+    answer = ap (λ (f : First). foundOf (Searched f)) (same-first I ok cpp cpp′ room room′);
+    left = λ z. record { cpe = same-cpe I ok cpp cpp′ room room′; kernels = same-kernels I ok cpp cpp′ room room′; inks = refl };
+  }
+
+  module _ (cpe cpe′ inks inks′ : List Float) (a : length cpe ≡ length cpe′) (b : length cpp ≡ length cpp′) (d : length inks ≡ length inks′) where
+    abbrev find-verdict : Status
+    find-verdict = judge (findTests I (length cpe′) (length cpp′) (length inks′))
+
+    found-alike : (t : Bool) → isAccepted find-verdict ≡ t → FindsAlike (tilingOf I)
+        (cond t (found (searchAccepted I cpp)) (refused find-verdict cpe cpp inks)) (cond t (found (searchAccepted I cpp′)) (refused find-verdict cpe′ cpp′ inks′))
+    unfolding foundOf
+    found-alike true e =
+        let v = find-valid-iff I _ _ _ .0 (accepted-is find-verdict e) in
+        searched-alike (valid-iff I .1 (v .valid)) (b ∙ v .cpp-length) (v .cpp-length)
+    found-alike false e = record { answer = refl; left = λ z. absurd (true≢false (sym is-accepted ∙ ap isAccepted (sym z) ∙ e)) }
+
+    finds : FindsAlike (tilingOf I) (findOf I cpe cpp inks) (findOf I cpe′ cpp′ inks′)
+    unfolding findOf
+    finds = rw (a, b, d) (found-alike (isAccepted find-verdict) refl)
 
 -- ---- open
 
@@ -161,6 +192,7 @@ works words t pinned cpp cpp′ copy inks e k =
 pub whatever-held : WhateverHeld
 whatever-held = record {
   refines = λ I passes cpe cpe′ cpp cpp′ counts counts′ inks inks′ a b c d. refines I passes cpp cpp′ counts counts′ cpe cpe′ inks inks′ a b c d;
+  finds = λ I cpe cpe′ cpp cpp′ inks inks′ a b d. finds I cpp cpp′ cpe cpe′ inks inks′ a b d;
   opens = λ words words′ O O′ e k. opens O O′ k words words′ e;
   runs = λ words O O′ k ok n. runs O O′ k (run-opens words O ok) n;
   works = works;

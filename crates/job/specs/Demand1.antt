@@ -13,11 +13,13 @@ use Rattle.base.specs.Rows.{Judged}
 use Rattle.tiling.specs.Tiling.{tiles}
 use Rattle.eye.specs.declared.DbsParams.{DbsParams}
 use Rattle.input.specs.Input.{Input, input}
-use Rattle.input.specs.Valid.{Valid, ValidRefine, ValidOpen}
-use Rattle.input.specs.Rows.{measureRows, refineRows}
+use Rattle.input.specs.Valid.{Valid, ValidFind, ValidRefine, ValidOpen}
+use Rattle.input.specs.Rows.{measureRows, refineRows, findRows}
 use Rattle.prepare.specs.Prepare.{tilingOf, runOne}
 use Rattle.refine.specs.Refine.{refinement, refusedStats, refineStatus, refineOf}
 use Rattle.perceived.specs.Perceived.{measureStatus, measureOf}
+use Rattle.found.specs.Found.{refusedOf}
+use Rattle.findmove.specs.FindMove.{finding, findStatus, findOf}
 use Rattle.tile.specs.Tile.{State, state, noProgress}
 use Rattle.job.specs.Words.{runLength, decode}
 use Rattle.job.specs.Copy.{Pixels}
@@ -49,6 +51,13 @@ abbrev pub MeasureJudged : ℕ → ℕ → List ℕ → List ℕ → List ℕ �
 MeasureJudged width height pixels palette indices params =
     let I = input width height pixels palette indices [] params in
     Judged measureStatus (Valid I) (λ s. record { number = s .number; place = s .place; error = f0 }) (measureRows I) (measureOf I)
+
+-- document 02, F-1: 'It answers the opening refusals 1 to 9 and 11'; 'what an answer reports .. is zero on a refusal'
+abbrev pub FindJudged : Input → List Float → List Float → List Float → Type 0
+FindJudged I cpe cpp inks =
+    Judged findStatus (ValidFind I (length cpe) (length cpp) (length inks)) (λ s. finding (refusedOf s) cpe cpp inks)
+    (findRows I (length cpe) (length cpp) (length inks))
+    (findOf I cpe cpp inks)
 
 abbrev pub OpenJudged : List ℕ → Opening → Type 0
 OpenJudged words O =
@@ -95,6 +104,7 @@ pub record Demand1 : Type 0 where
   -- 'to its end': the walk that an accepted refine leaves has ended
   pub ends : (I : Input) (passes : ℕ) (cpp : List Float) → runOne I passes cpp (4 * passes) .ended ≡ true
   pub measures : (width height : ℕ) (pixels palette indices : List ℕ) (params : DbsParams) → MeasureJudged width height pixels palette indices params
+  pub finds : (I : Input) (cpe cpp inks : List Float) → FindJudged I cpe cpp inks
   pub opens : (words : List ℕ) (O : Opening) → OpenJudged words O
   pub takes : (words : List ℕ) (t : ℕ) (image : Pixels) (states : List ℕ) (copy : Pixels) → TakeJudged words t image states copy
   pub works : (words : List ℕ) (t : ℕ) (pinned : List ℕ) (cpp : List Float) (copy : Pixels) (inks : List Float) → WorkJudged words t pinned cpp copy inks

@@ -13,6 +13,7 @@ use Rattle.input.specs.Input.{Input}
 use Rattle.prepare.specs.Prepare.{tilingOf}
 use Rattle.prepare.specs.SameKernels.{SameKernels}
 use Rattle.refine.specs.Refine.{Refinement, refineStatus, refineOf}
+use Rattle.findmove.specs.FindMove.{Finding, findStatus, findOf}
 use Rattle.job.specs.Words.{decode}
 use Rattle.job.specs.Copy.{Pixels}
 use Rattle.job.specs.Open.{Opening, Opened}
@@ -32,6 +33,18 @@ pub record SameRefined (T : Tiling) (R R′ : Refinement) : Type 0 where
 pub record RefinesAlike (T : Tiling) (R R′ : Refinement) : Type 0 where
   pub stats : R .stats ≡ R′ .stats
   pub left : refineStatus R ≡ accepted → SameRefined T R R′
+
+-- ---- find_move
+
+pub record SameFound (T : Tiling) (F F′ : Finding) : Type 0 where
+  pub cpe : F .cpe ≡ F′ .cpe
+  pub kernels : SameKernels T (F .cpp) (F′ .cpp)
+  pub inks : F .inks ≡ F′ .inks
+
+-- `answer`: number and place, whether a move was found, its pixel, kind and cost
+pub record FindsAlike (T : Tiling) (F F′ : Finding) : Type 0 where
+  pub answer : F .answer ≡ F′ .answer
+  pub left : findStatus F ≡ accepted → SameFound T F F′
 
 -- ---- open, as C hosts call it
 
@@ -65,6 +78,8 @@ pub record WhateverHeld : Type 0 where
   pub refines : (I : Input) (passes : ℕ) (cpe cpe′ cpp cpp′ : List Float) (counts counts′ : List ℕ) (inks inks′ : List Float) →
       length cpe ≡ length cpe′ → length cpp ≡ length cpp′ → length counts ≡ length counts′ → length inks ≡ length inks′ →
       RefinesAlike (tilingOf I) (refineOf I passes cpe cpp counts inks) (refineOf I passes cpe′ cpp′ counts′ inks′)
+  pub finds : (I : Input) (cpe cpe′ cpp cpp′ inks inks′ : List Float) → length cpe ≡ length cpe′ → length cpp ≡ length cpp′ → length inks ≡ length inks′ →
+      FindsAlike (tilingOf I) (findOf I cpe cpp inks) (findOf I cpe′ cpp′ inks′)
   pub opens : (words words′ : List ℕ) (O O′ : Opening) → length words ≡ length words′ → AskAlike O O′ → OpensAlike (tilingOf (O .input)) (openRun words O) (openRun words′ O′)
   -- run one of demand 3, after every phase
   pub runs : (words : List ℕ) (O O′ : Opening) → AskAlike O O′ → openRun words O .status ≡ accepted → (n : ℕ) → phases O n ≡ phases O′ n

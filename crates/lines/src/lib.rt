@@ -1,5 +1,5 @@
 // The lines of compare/replay.txt: words separated by one space, numbers, floats by their bits, bytes of two
-// digits; parts of buffers, as long as a word says; and their like written.
+// digits, each with how often it comes if that is more than once; parts of buffers, as long as a word says; and their like written.
 ghost use Prim.Native.Nat.{_<_, _≤_};
 ghost use lib.ListN.{length};
 
@@ -74,12 +74,12 @@ fn push(n: u64, b: u8, base: u64) -> u64 {
     std::num::wrapping_add_u64(scaled, digit(b) as u64)
 }
 
-// The number that begins here, of base 10 or 16.
+// The number that begins here, of base 10 or 16, up to the first byte that is no digit.
 pub fn number_from(line: &[u8], from: usize, base: u64) -> u64 {
     let mut n = 0;
     for i in from..line.len() {
         let b = line[i];
-        if b == b' ' {
+        if !is_digit(b) {
             return n;
         }
         n = push(n, b, base);
@@ -95,19 +95,84 @@ pub fn float(line: &[u8], k: usize) -> f64 {
     bits::to_float(number_from(line, word(line, k), 16))
 }
 
+// How far bytes are read: where to read on, the last byte, how often it is still to come, and whether there is no more.
+struct Reader {
+    at: usize,
+    byte: u8,
+    left: u64,
+    ended: bool,
+}
+
+// The index past the next comma.
+fn past_comma(line: &[u8], from: usize) -> usize {
+    for i in from..line.len() {
+        if line[i] == b',' {
+            return std::num::wrapping_add_usize(i, 1);
+        }
+    }
+    line.len()
+}
+
+// A byte of two digits; x, a number and a comma after it say how often it comes.
+fn new_byte(line: &[u8], at: usize) -> Reader {
+    let high = byte_at(line, at);
+    if !is_digit(high) {
+        return Reader {
+            at,
+            byte: 0,
+            left: 0,
+            ended: true,
+        };
+    }
+    let second = std::num::wrapping_add_usize(at, 1);
+    let byte = pair(high, byte_at(line, second));
+    let after = std::num::wrapping_add_usize(second, 1);
+    if byte_at(line, after) == b'x' {
+        let times = std::num::wrapping_add_usize(after, 1);
+        return Reader {
+            at: past_comma(line, times),
+            byte,
+            left: number_from(line, times, 10),
+            ended: false,
+        };
+    }
+    Reader {
+        at: after,
+        byte,
+        left: 1,
+        ended: false,
+    }
+}
+
+// One byte on.
+fn next_byte(line: &[u8], r: Reader) -> Reader {
+    if r.left > 1 {
+        return Reader {
+            at: r.at,
+            byte: r.byte,
+            left: r.left - 1,
+            ended: false,
+        };
+    }
+    new_byte(line, r.at)
+}
+
 // Puts the bytes that begin here into out, as far as it holds them, and says how many.
 fn bytes_from(line: &[u8], from: usize, out: &mut [u8]) -> usize
     ensures { λ r. ⌜ r ≤ length (now (out .exit)) ⌝ }
 {
-    let mut at = from;
+    let mut r = Reader {
+        at: from,
+        byte: 0,
+        left: 0,
+        ended: false,
+    };
     for i in 0..out.len() {
-        let high = byte_at(line, at);
-        if !is_digit(high) {
+        r = next_byte(line, r);
+        if r.ended {
             return i;
         }
-        let second = std::num::wrapping_add_usize(at, 1);
-        out[i] = pair(high, byte_at(line, second));
-        at = std::num::wrapping_add_usize(second, 1);
+        out[i] = r.byte;
     }
     out.len()
 }
@@ -222,12 +287,43 @@ fn print_byte(b: u8) {
     io::print_hex(STDOUT, b as u64, 2);
 }
 
+// Where the bytes end that are equal to the one here.
+fn run_end(bytes: &[u8], from: usize) -> usize
+    requires { ⌜ from < length (now bytes) ⌝ }
+    ensures { λ r. ⌜ (from < r) × (r ≤ length (now (bytes .entry))) ⌝ }
+{
+    let b = bytes[from];
+    for i in from + 1..bytes.len() {
+        if bytes[i] != b {
+            return i;
+        }
+    }
+    bytes.len()
+}
+
+// A byte n times.
+fn print_run(b: u8, n: usize) {
+    if n >= 16 {
+        print_byte(b);
+        io::write_all(STDOUT, b"x");
+        io::print_decimal(STDOUT, n as u64);
+        io::write_all(STDOUT, b",");
+        return;
+    }
+    for i in 0..n {
+        print_byte(b);
+    }
+}
+
 pub fn print_bytes(bytes: &[u8]) {
     if bytes.len() == 0 {
         io::write_all(STDOUT, b"-");
     }
-    for i in 0..bytes.len() {
-        print_byte(bytes[i]);
+    let mut at = 0;
+    while at < bytes.len() {
+        let end = run_end(bytes, at);
+        print_run(bytes[at], end - at);
+        at = end;
     }
 }
 

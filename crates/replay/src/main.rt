@@ -1,7 +1,7 @@
-// Runs the calls of refine and of measure and the lists of job calls of compare/replay.txt, and writes the
+// Runs the calls of refine, of measure and of find_move and the lists of job calls of compare/replay.txt, and writes the
 // answers in that file's form, to be held to the copy of the Rust. What it reads and must write is made by
 //   grep -E '^(call|open|take|work|put_back|close|word|index) ' compare/replay.txt > crates/replay/stdin
-//   grep -E '^(refine|measure|opened|taken|worked|back|closed) ' compare/replay.txt > crates/replay/stdout
+//   grep -E '^(refine|measure|find|opened|taken|worked|back|closed) ' compare/replay.txt > crates/replay/stdout
 use base::Index;
 ghost use Prim.Native.Nat.{_<_, _≤_};
 ghost use lib.ListN.{length};
@@ -79,7 +79,7 @@ fn list_in<'a>(
 
 // A list, which begins with an open, finds each cell of every buffer set.
 fn list(text: &[u8]) {
-    let mut given = [255u8; 4096];
+    let mut given = [255u8; 65536];
     let mut cpe = [-1.0f64; 1024];
     let mut cpp = [-1.0f64; 8500];
     let mut counts = [4294967295u32; 1024];

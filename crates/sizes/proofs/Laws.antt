@@ -17,7 +17,7 @@ use Rattle.base.proofs.AnswerLaws.{Answers, answers}
 use Rattle.eye.specs.declared.Eye.{Eye}
 use Rattle.tiling.specs.declared.Tiling.{Tiling}
 use Rattle.tiling.specs.Tiling.{Limits, tiles}
-use Rattle.input.specs.Input.{Input, pixelCount, inkCount, inputTests, checkedOf, runTests, refineRunTests, openRunTests, refineTests, openTests}
+use Rattle.input.specs.Input.{Input, pixelCount, inkCount, inputTests, checkedOf, runTests, refineRunTests, openRunTests, findRunTests, refineTests, findTests, openTests}
 use Rattle.input.specs.Valid.{Valid}
 use Rattle.input.proofs.InputLaws.{input-numbered, checked-status, checked-accepted, checked-radii}
 use Rattle.input.proofs.Validity.{valid-iff, valid-radii}
@@ -92,6 +92,12 @@ module _ (I : Input) (S : Sizes) (q : S ≡ sizesOf I) where
   refine-verdict passes cpe cpp counts inks r e =
       subst (λ s. r ≡ judgeFrom (s .status) (refineRunTests passes (s .field) (s .values) cpe cpp counts inks)) q e
       ∙ after I (λ field values count. refineRunTests passes field values cpe cpp counts inks) (λ field values count. omega arith)
+
+  pub find-verdict : (cpe cpp inks : ℕ) (r : Status) → r ≡ judgeFrom (S .status) (findRunTests (S .field) (S .values) cpe cpp inks) → r ≡ judge (findTests I cpe cpp inks)
+  unfolding findTests findRunTests Numbered
+  find-verdict cpe cpp inks r e =
+      subst (λ s. r ≡ judgeFrom (s .status) (findRunTests (s .field) (s .values) cpe cpp inks)) q e
+      ∙ after I (λ field values count. findRunTests field values cpe cpp inks) (λ field values count. omega arith)
 
   pub open-verdict : (passes cpe cpp counts states deltas inks : ℕ) (r : Status) →
       r ≡ judgeFrom (S .status) (openRunTests passes (S .field) (S .values) (S .tiles) cpe cpp counts states deltas inks) →

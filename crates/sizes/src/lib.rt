@@ -9,7 +9,7 @@ use input::next_length;
 use tiling::Tiling;
 ghost use mathlib.Core.Path.{_≡_};
 ghost use Rattle.base.specs.Refusal.{judgeFrom};
-ghost use Rattle.input.specs.Input.{input, runTests, refineRunTests, openRunTests};
+ghost use Rattle.input.specs.Input.{input, runTests, refineRunTests, openRunTests, findRunTests};
 ghost use Rattle.sizes.specs.Sizes.{noSizes, sizesOf};
 
 // The tiling of an input, its number of tiles, and the lengths of its field and of its ink values; zeros where it is refused.
@@ -100,6 +100,15 @@ pub fn check_refine(
 {
     let run = check_run(s, max_passes, cpe_len, cpp_len, accepted_per_pass_len);
     next_length(run, 8, inks_len, s.values)
+}
+
+// Refusal 11 of find_move, which is given no passes and no counts.
+pub fn check_find(s: Sizes, cpe_len: usize, cpp_len: usize, inks_len: usize) -> Status
+    ensures { λ r. ⌜ r ≡ judgeFrom (s .status) (findRunTests (s .field) (s .values) «cpe_len» «cpp_len» «inks_len») ⌝ }
+{
+    let s1 = next_length(s.status, 1, cpe_len, s.field);
+    let s2 = next_length(s1, 2, cpp_len, CPP_LEN);
+    next_length(s2, 8, inks_len, s.values)
 }
 
 // Refusals 10 and 11 of open.

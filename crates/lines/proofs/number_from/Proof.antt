@@ -18,6 +18,9 @@ loop-holds c = search needs
 shared-slice-read-b : tie.Need-shared-slice-read-b Inv-loop μ-loop
 shared-slice-read-b c = search needs
 
+is-digit-requires : tie.Need-is-digit-requires Inv-loop μ-loop
+is-digit-requires c κs = search needs
+
 returns : tie.Need-returns Inv-loop μ-loop
 returns c = search needs
 
@@ -44,6 +47,7 @@ number-from-spec =
     μ-loop
     loop-holds
     shared-slice-read-b
+    is-digit-requires
     returns
     push-requires
     add-i

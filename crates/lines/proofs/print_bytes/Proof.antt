@@ -1,16 +1,15 @@
--- `print_bytes` is safe: the loop stays within the slice. Assumes nothing.
-use mathlib.Core.Path.{_≡_}
-use Prim.Native.Nat.{_-_}
+-- `print_bytes` is safe: each turn goes on behind the bytes that it has written, and stays within the slice. Assumes nothing.
+use Prim.Native.Nat.{_-_, _≤_}
 use lib.ListN.{length}
 use borrow.Author.Needs.{needs}
 use Rattle.lines.proofs.print_bytes.Statement.{statement}
 use Rattle.lines.proofs.print_bytes.Tie as tie
 
 abbrev Inv-loop : tie.InvT-loop
-Inv-loop bytes i₀ i-end i = i-end ≡ length bytes
+Inv-loop bytes at₀ at = at ≤ length bytes
 
 abbrev μ-loop : tie.MeasureT-loop
-μ-loop bytes i₀ i-end i = i-end - i
+μ-loop bytes at₀ at = length bytes - at
 
 slice-aggregate-write-all : tie.Need-slice-aggregate-write-all Inv-loop μ-loop
 slice-aggregate-write-all c = search needs
@@ -21,14 +20,17 @@ write-all-requires c κs = search needs
 loop-holds : tie.Need-loop-holds Inv-loop μ-loop
 loop-holds c = search needs
 
-shared-slice-read-print-byte : tie.Need-shared-slice-read-print-byte Inv-loop μ-loop
-shared-slice-read-print-byte c = search needs
+run-end-requires : tie.Need-run-end-requires Inv-loop μ-loop
+run-end-requires c κs = search needs
 
-print-byte-requires : tie.Need-print-byte-requires Inv-loop μ-loop
-print-byte-requires c κs = search needs
+shared-slice-read-print-run : tie.Need-shared-slice-read-print-run Inv-loop μ-loop
+shared-slice-read-print-run c = search needs
 
-add-i : tie.Need-add-i Inv-loop μ-loop
-add-i c = search needs
+sub-print-run : tie.Need-sub-print-run Inv-loop μ-loop
+sub-print-run c = search needs
+
+print-run-requires : tie.Need-print-run-requires Inv-loop μ-loop
+print-run-requires c κs = search needs
 
 loop-less : tie.Need-loop-less Inv-loop μ-loop
 loop-less c = search needs
@@ -48,9 +50,10 @@ print-bytes-spec =
     slice-aggregate-write-all
     write-all-requires
     loop-holds
-    shared-slice-read-print-byte
-    print-byte-requires
-    add-i
+    run-end-requires
+    shared-slice-read-print-run
+    sub-print-run
+    print-run-requires
     loop-less
     loop-again
     returns)

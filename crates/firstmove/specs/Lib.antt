@@ -1,0 +1,2 @@
+pub mod FirstMove
+pub mod Copies
