@@ -184,8 +184,8 @@ stay-not-swap : (code : ℕ) → Swap code ≡ Stay → ⊥
 unfolding stays
 stay-not-swap code e = true≢false (sym (ap stays e))
 
-abbrev pub dot : ℕ → ℕ → Rect
-dot x y = record { x0 = x; y0 = y; x1 = x + 1; y1 = y + 1 }
+abbrev pub onePixel : ℕ → ℕ → Rect
+onePixel x y = record { x0 = x; y0 = y; x1 = x + 1; y1 = y + 1 }
 
 module _ (S : Shared) (W : Rect) (values : List Float) (inks : List ℕ) (x y : ℕ) (room : length inks ≡ area W) (h : Held (S .tiling) W x y) where
   abbrev best : Best
@@ -221,14 +221,14 @@ module _ (S : Shared) (W : Rect) (values : List Float) (inks : List ℕ) (x y : 
 
 -- ---- the same of the image
 
-module _ (S : Shared) (cpe : List Float) (indices : List ℕ) (x y : ℕ) (p : Part (S .tiling) (dot x y)) where
+module _ (S : Shared) (cpe : List Float) (indices : List ℕ) (x y : ℕ) (p : Part (S .tiling) (onePixel x y)) where
   abbrev W : Rect
-  W = around (S .tiling) (dot x y)
+  W = around (S .tiling) (onePixel x y)
 
-  own : Inside (dot x y) x y
+  own : Inside (onePixel x y) x y
   own = record { left = omega arith; right = omega arith; top = omega arith; bottom = omega arith }
 
-  one-visit : walked S cpe indices (dot x y) ≡ visitOf S W x y (copied S cpe indices W)
+  one-visit : walked S cpe indices (onePixel x y) ≡ visitOf S W x y (copied S cpe indices W)
   unfolding walked refineTile refineRow
   one-visit =
       fromTo-more y y _ _ (omega arith)
@@ -236,23 +236,23 @@ module _ (S : Shared) (cpe : List Float) (indices : List ℕ) (x y : ℕ) (p : P
       ∙ fromTo-more x x _ _ (omega arith)
       ∙ ap (visitOf S W x y) (fromTo-none x x _ _ (omega arith))
 
-  pub pixel-stays : walked S cpe indices (dot x y) .progress .accepted ≡ 0 → moveAt S cpe indices x y ≡ Nothing
-  pixel-stays e = sym (column-first S cpe indices x y) ∙ go (column S cpe indices y x Nothing) (visit-alike S cpe indices W _ _ x y (same-best S cpe indices (dot x y) p x y own) Nothing _ refl)
+  pub pixel-stays : walked S cpe indices (onePixel x y) .progress .accepted ≡ 0 → moveAt S cpe indices x y ≡ Nothing
+  pixel-stays e = sym (column-first S cpe indices x y) ∙ go (column S cpe indices y x Nothing) (visit-alike S cpe indices W _ _ x y (same-best S cpe indices (onePixel x y) p x y own) Nothing _ refl)
     where
       go : (f : First) → Alike S cpe indices W (crop nan 3 (image (S .tiling)) W cpe) (crop 0 1 (image (S .tiling)) W indices) f (visitOf S W x y (copied S cpe indices W)) → f ≡ Nothing
       go Nothing a = refl
       go (ToggleAt pixel cost) a = absurd (omega (arith, ap (λ (s : State). s .progress .accepted) one-visit))
       go (SwapAt pixel cost) a = absurd (omega (arith, ap (λ (s : State). s .progress .accepted) one-visit))
 
-  pub pixel-moves : (k : ℕ) → k ≡ indexAt (image (S .tiling)) indices x y → walked S cpe indices (dot x y) .progress .accepted ≢ 0 →
-      let r = walked S cpe indices (dot x y) in
+  pub pixel-moves : (k : ℕ) → k ≡ indexAt (image (S .tiling)) indices x y → walked S cpe indices (onePixel x y) .progress .accepted ≢ 0 →
+      let r = walked S cpe indices (onePixel x y) in
       moveAt S cpe indices x y ≡ told (eqb (countOf k (r .indices)) (countOf k (crop 0 1 (image (S .tiling)) W indices))) (y * S .tiling .width + x) (r .progress .delta)
   unfolding moveAt
   pixel-moves k e n =
       let c = crop 0 1 (image (S .tiling)) W indices in
       let same : k ≡ indexAt W c x y = e ∙ sym (cell-crop 0 1 (image (S .tiling)) W indices x y 0 (held-inside (S .tiling) W x y held) (omega arith)) in
-      rw (same, one-visit, ← same-best S cpe indices (dot x y) p x y own)
+      rw (same, one-visit, ← same-best S cpe indices (onePixel x y) p x y own)
       (visited S W (crop nan 3 (image (S .tiling)) W cpe) c x y (length-crop 0 1 (image (S .tiling)) W indices ∙ one-mul (area W)) held (y * S .tiling .width + x) (rw one-visit at n))
     where
       held : Held (S .tiling) W x y
-      held = covers-held (S .tiling) W (dot x y) x y (around-covers (S .tiling) (dot x y) p) own
+      held = covers-held (S .tiling) W (onePixel x y) x y (around-covers (S .tiling) (onePixel x y) p) own

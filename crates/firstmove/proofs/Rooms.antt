@@ -25,10 +25,10 @@ use Rattle.tile.specs.Tile.{State, state}
 use Rattle.firstmove.specs.declared.First.{First}
 use Rattle.firstmove.specs.declared.First.the-variants.{Nothing}
 use Rattle.firstmove.specs.FirstMove.{moveAt}
-use Rattle.firstmove.specs.Copies.{Part, Row, Dot, around, walked, countOf, told}
+use Rattle.firstmove.specs.Copies.{Part, Row, OnePixel, around, walked, countOf, told}
 use Rattle.firstmove.proofs.Copies.{around-order, strip}
 use Rattle.firstmove.proofs.Laws.{denied, affirmed}
-use Rattle.firstmove.proofs.Pixel.{dot, pixel-stays, pixel-moves}
+use Rattle.firstmove.proofs.Pixel.{onePixel, pixel-stays, pixel-moves}
 
 span : (a b n k : ℕ) → b - a ≤ k → min (b + 1) n - (a - 1) ≤ k + 2
 span a b n k h = omega arith
@@ -77,20 +77,20 @@ pub taken : {A : Type 0} (l : List A) (n m b : ℕ) → length l ≡ b → n ≤
 taken l n m b e h s = let whole : n - 0 ≡ n = omega arith in rw whole (length-take-le n l (omega (arith, e)) ∙ s)
 
 -- a pixel
-module _ (T : Tiling) (Q : Rect) (d : Dot T Q) where
-  pub dot-row : Row T Q
-  dot-row = record {
+module _ (T : Tiling) (Q : Rect) (d : OnePixel T Q) where
+  pub pixel-row : Row T Q
+  pixel-row = record {
     part = record { x-order = omega (arith, d .x-end); y-order = omega (arith, d .y-end); in-x = omega (arith, d .x-end, d .in-x); in-y = omega (arith, d .y-end, d .in-y) };
     wide = omega (arith, d .x-end);
     high = omega (arith, d .y-end);
   }
 
-  pub dot-is : Q ≡ dot (Q .x0) (Q .y0)
-  dot-is = λ i. record { x0 = Q .x0; y0 = Q .y0; x1 = d .x-end i; y1 = d .y-end i }
+  pub pixel-is : Q ≡ onePixel (Q .x0) (Q .y0)
+  pixel-is = λ i. record { x0 = Q .x0; y0 = Q .y0; x1 = d .x-end i; y1 = d .y-end i }
 
 -- ---- a pixel's walk, by the values that the calls gave
 
-module _ (S : Shared) (cpe : List Float) (indices : List ℕ) (n : ℕ) (Q : Rect) (d : Dot (S .tiling) Q) (r : Ready S (image (S .tiling)) n indices) where
+module _ (S : Shared) (cpe : List Float) (indices : List ℕ) (n : ℕ) (Q : Rect) (d : OnePixel (S .tiling) Q) (r : Ready S (image (S .tiling)) n indices) where
   abbrev pixel : ℕ
   pixel = Q .y0 * S .tiling .width + Q .x0
 
@@ -108,16 +108,16 @@ module _ (S : Shared) (cpe : List Float) (indices : List ℕ) (n : ℕ) (Q : Rec
   module _ (values : List Float) (inks : List ℕ) (p : Progress) (e : state values inks p ≡ walked S cpe indices Q) where
     pub stays-as : p .accepted ≡ 0 → Nothing ≡ moveAt S cpe indices (Q .x0) (Q .y0)
     stays-as h =
-        let D = dot-is (S .tiling) Q d in
-        let part = subst (Part (S .tiling)) D (dot-row (S .tiling) Q d .part) in
+        let D = pixel-is (S .tiling) Q d in
+        let part = subst (Part (S .tiling)) D (pixel-row (S .tiling) Q d .part) in
         sym (pixel-stays S cpe indices (Q .x0) (Q .y0) part (ap (λ (R : Rect). walked S cpe indices R .progress .accepted) (sym D) ∙ sym (ap (λ (s : State). s .progress .accepted) e) ∙ h))
 
     pub moves-as : (W : Rect) → W ≡ around (S .tiling) Q → (k ink left : ℕ) (f : First) → k ≡ indexAt (image (S .tiling)) indices (Q .x0) (Q .y0) →
         ink ≡ countOf k (crop 0 1 (image (S .tiling)) W indices) → left ≡ countOf k inks → f ≡ told (eqb left ink) pixel (p .delta) → p .accepted ≢ 0 → f ≡ moveAt S cpe indices (Q .x0) (Q .y0)
     moves-as W w k ink left f ek ei el ef h =
-        let D = dot-is (S .tiling) Q d in
-        let part = subst (Part (S .tiling)) D (dot-row (S .tiling) Q d .part) in
-        let nonzero : walked S cpe indices (dot (Q .x0) (Q .y0)) .progress .accepted ≢ 0 =
+        let D = pixel-is (S .tiling) Q d in
+        let part = subst (Part (S .tiling)) D (pixel-row (S .tiling) Q d .part) in
+        let nonzero : walked S cpe indices (onePixel (Q .x0) (Q .y0)) .progress .accepted ≢ 0 =
         λ z. h (ap (λ (s : State). s .progress .accepted) e ∙ ap (λ (R : Rect). walked S cpe indices R .progress .accepted) D ∙ z) in
         let m = pixel-moves S cpe indices (Q .x0) (Q .y0) part k ek nonzero in
         let at : State → Rect → First = λ s R. told (eqb (countOf k (s .indices)) (countOf k (crop 0 1 (image (S .tiling)) (around (S .tiling) R) indices))) pixel (s .progress .delta) in

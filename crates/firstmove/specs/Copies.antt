@@ -29,7 +29,7 @@ pub record Row (T : Tiling) (Q : Rect) : Type 0 where
   pub wide : Q .x1 - Q .x0 ≤ 67
   pub high : Q .y1 - Q .y0 ≤ 1
 
-pub record Dot (T : Tiling) (Q : Rect) : Type 0 where
+pub record OnePixel (T : Tiling) (Q : Rect) : Type 0 where
   pub in-x : Q .x0 < T .width
   pub in-y : Q .y0 < T .height
   pub x-end : Q .x1 ≡ Q .x0 + 1

@@ -19,7 +19,7 @@ ghost use Rattle.tiling.specs.Tiling.{image};
 ghost use Rattle.search.specs.Shared.{shared, sharedOf, Ready};
 ghost use Rattle.tile.specs.Tile.{state};
 ghost use Rattle.copy.specs.Part.{Holds};
-ghost use Rattle.firstmove.specs.Copies.{Part, Row, Dot, around as window, walked, countOf, told as telling};
+ghost use Rattle.firstmove.specs.Copies.{Part, Row, OnePixel, around as window, walked, countOf, told as telling};
 ghost use Rattle.firstmove.specs.FirstMove.{moveAt, isMove, firstInPhase, firstInPass};
 
 // A pixel with the kind and the cost of its best move, or nothing.
@@ -198,7 +198,7 @@ fn pixel_move(
     copy_indices: &mut [Index],
 ) -> First
     requires { ⌜ Ready (sharedOf g (now pinned) (now inks) (now cpp)) (image (g .tiling)) (length (now cpe)) (now indices) ⌝ }
-    requires { ⌜ Dot (g .tiling) q × (w ≡ window (g .tiling) q) ⌝ }
+    requires { ⌜ OnePixel (g .tiling) q × (w ≡ window (g .tiling) q) ⌝ }
     requires { ⌜ (length (now «copy_cpe») ≡ 3 * area w) × (length (now «copy_indices») ≡ area w) ⌝ }
     ensures { λ r. ⌜ r ≡ moveAt (sharedOf g (now (pinned .entry)) (now (inks .entry)) (now (cpp .entry))) (now (cpe .entry)) (now (indices .entry)) (q .x0) (q .y0) ⌝ }
 {

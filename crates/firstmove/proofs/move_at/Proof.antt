@@ -5,9 +5,9 @@ use mathlib.Core.Path.{refl, sym}
 use borrow.Author.Needs.{needs}
 use Rattle.base.specs.declared.Rect.{Rect}
 use Rattle.tiling.specs.declared.Tiling.{Tiling}
-use Rattle.firstmove.specs.Copies.{Row, Dot}
-use Rattle.firstmove.proofs.Pixel.{dot}
-use Rattle.firstmove.proofs.Rooms.{order, room, area-is, values-is, taken, dot-row}
+use Rattle.firstmove.specs.Copies.{Row, OnePixel}
+use Rattle.firstmove.proofs.Pixel.{onePixel}
+use Rattle.firstmove.proofs.Rooms.{order, room, area-is, values-is, taken, pixel-row}
 use Rattle.firstmove.proofs.move_at.Statement.{statement}
 use Rattle.firstmove.proofs.move_at.Tie as tie
 
@@ -20,13 +20,13 @@ abbrev T : tie.Start → Tiling
 T s = s .args .g .tiling
 
 abbrev Q : tie.Start → Rect
-Q s = dot (s .args .x) (s .args .y)
+Q s = onePixel (s .args .x) (s .args .y)
 
-is-dot : (s : tie.Start) → Dot (T s) (Q s)
-is-dot s = record { in-x = s .pre .1 .0 .0; in-y = s .pre .1 .0 .1; x-end = refl; y-end = refl }
+is-pixel : (s : tie.Start) → OnePixel (T s) (Q s)
+is-pixel s = record { in-x = s .pre .1 .0 .0; in-y = s .pre .1 .0 .1; x-end = refl; y-end = refl }
 
 row : (s : tie.Start) → Row (T s) (Q s)
-row s = dot-row (T s) (Q s) (is-dot s)
+row s = pixel-row (T s) (Q s) (is-pixel s)
 
 most : (c : tie.After-around) → (c .around .result .y1 - c .around .result .y0) * (c .around .result .x1 - c .around .result .x0) ≤ 207
 most c = room (T (start c)) (Q (start c)) (row (start c)) (c .around .result) (c .around .ensures)
@@ -78,7 +78,7 @@ pixel-move-requires c κs =
     let a = c .before .before .before .before in
     let s = start a in
     let w = a .around .result in
-    (s .pre .0, ((is-dot s, a .around .ensures), (taken _ _ _ 621 (s .pre .1 .1 .0) (omega (arith, most a)) (values-is (T s) (Q s) (row s) w (a .around .ensures)), taken _ _ _ 207 (s .pre .1 .1 .1) (most a) (sym (area-is w)))))
+    (s .pre .0, ((is-pixel s, a .around .ensures), (taken _ _ _ 621 (s .pre .1 .1 .0) (omega (arith, most a)) (values-is (T s) (Q s) (row s) w (a .around .ensures)), taken _ _ _ 207 (s .pre .1 .1 .1) (most a) (sym (area-is w)))))
 
 same-length : tie.Need-same-length
 same-length c = search needs

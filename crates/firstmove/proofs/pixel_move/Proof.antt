@@ -15,7 +15,7 @@ use Rattle.tiling.specs.Tiling.{image}
 use Rattle.search.specs.Shared.{Shared, sharedOf, indexAt}
 use Rattle.firstmove.specs.Copies.{countOf}
 use Rattle.firstmove.proofs.Copies.{holds-as}
-use Rattle.firstmove.proofs.Rooms.{room, area-is, dot-row, pixel-fits, image-index, stays-as, moves-as}
+use Rattle.firstmove.proofs.Rooms.{room, area-is, pixel-row, pixel-fits, image-index, stays-as, moves-as}
 use Rattle.firstmove.proofs.pixel_move.Statement.{statement}
 use Rattle.firstmove.proofs.pixel_move.Tie as tie
 
@@ -34,7 +34,7 @@ filled w =
 
 -- the window's pixels
 few : (s : tie.Start) → area (s .args .w) ≤ maxPixels
-few s = omega (arith, area-is (s .args .w), room (s .args .g .tiling) (s .args .q) (dot-row (s .args .g .tiling) (s .args .q) (s .pre .1 .0 .0)) (s .args .w) (s .pre .1 .0 .1))
+few s = omega (arith, area-is (s .args .w), room (s .args .g .tiling) (s .args .q) (pixel-row (s .args .g .tiling) (s .args .q) (s .pre .1 .0 .0)) (s .args .w) (s .pre .1 .0 .1))
 
 values : (f : tie.After-fill-copy) → length (f .fill-copy .last .1 .1 .1 .1 .0) ≡ 3 * area (start f .args .w)
 values f = f .fill-copy .kept .1 .1 .1 .1 .0 ∙ start f .pre .1 .1 .0
@@ -54,7 +54,7 @@ fill-copy-requires : tie.Need-fill-copy-requires
 fill-copy-requires c κs =
     let s = c .before .before .before .before .before .before .before .before .before .before .before .before in
     let a = s .args in
-    (holds-as (S s) (a .cpe .now) (a .indices .now) (length (a .cpe .now)) (a .q) (a .w) (s .pre .1 .0 .1) (dot-row (a .g .tiling) (a .q) (s .pre .1 .0 .0) .part) (s .pre .0), ((s .pre .0 .cpe, s .pre .0 .indices-room), s .pre .1 .1))
+    (holds-as (S s) (a .cpe .now) (a .indices .now) (length (a .cpe .now)) (a .q) (a .w) (s .pre .1 .0 .1) (pixel-row (a .g .tiling) (a .q) (s .pre .1 .0 .0) .part) (s .pre .0), ((s .pre .0 .cpe, s .pre .0 .indices-room), s .pre .1 .1))
 
 count-ink-requires : tie.Need-count-ink-requires
 count-ink-requires c κs =
@@ -65,7 +65,7 @@ walk-copy-requires : tie.Need-walk-copy-requires
 walk-copy-requires c κs =
     let f = c .before .before .before .before .before .before .before .before in
     let s = start f in
-    (s .pre .0, ((dot-row (s .args .g .tiling) (s .args .q) (s .pre .1 .0 .0) .part, s .pre .1 .0 .1), (values f, indices f)))
+    (s .pre .0, ((pixel-row (s .args .g .tiling) (s .args .q) (s .pre .1 .0 .0) .part, s .pre .1 .0 .1), (values f, indices f)))
 
 same-length : tie.Need-same-length
 same-length c = search needs
