@@ -21,7 +21,11 @@ maskFits pinned n = eqb pinned 0 || eqb pinned n
 abbrev pub paletteFits : ℕ → Bool
 paletteFits palette = eqb (palette % 3) 0 && isWithin 1 (palette / 3) maxInks
 
--- the place of the first index that names none of n inks, or the length
-unfoldable pub firstUnnamed : ℕ → List ℕ → ℕ
-firstUnnamed n [] = 0
-firstUnnamed n (k ∷ ks) = let later = firstUnnamed n ks in cond (ltb k n) (suc later) 0
+-- the place of the first number that is not below n, or the length
+unfoldable pub firstNotBelow : ℕ → List ℕ → ℕ
+firstNotBelow n [] = 0
+firstNotBelow n (k ∷ ks) = let later = firstNotBelow n ks in cond (ltb k n) (suc later) 0
+
+-- the place of the first index that names none of so many inks, or the length
+abbrev pub firstUnnamed : ℕ → List ℕ → ℕ
+firstUnnamed inks indices = firstNotBelow inks indices

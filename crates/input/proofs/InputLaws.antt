@@ -1,29 +1,34 @@
--- What a caller of `check_input` knows by its answer: the list of tests is three lists one after the other, each judged from where the one
--- before it ended. Assumes nothing.
+-- What a caller of `check_input` knows by its answer: the list of tests is two lists one after the other, the second judged from where the first
+-- ended. Assumes nothing.
 use mathlib.Core.Path.{_≡_, sym, ap, _∙_}
 use mathlib.Core.List.{List, _++_}
 use native.Mathlib.Omega.{arith}
 use borrow.Author.Tests.{eq-eqb, ne-eqb}
 use lib.ListN.{length}
 use Rattle.base.specs.declared.Status.{Status}
-use Rattle.base.specs.Refusal.{Test, judge, accepted, judgeFrom}
-use Rattle.base.proofs.RefusalLaws.{Numbered}
+use Rattle.base.specs.Refusal.{Test, judge, accepted, judgeFrom, Passes}
+use Rattle.base.proofs.RefusalLaws.{Numbered, passes-of}
 use Rattle.eye.specs.Constants.{alphaLum, alphaChroma}
 use Rattle.eye.specs.Eye.{eye, eyeTests, kernelRadius}
-use Rattle.input.specs.Input.{Input, imageTests, inkTests, inputTests, checkedOf}
-use Rattle.base.proofs.JudgeLaws.{judge-append, judge-from, judge-zero}
+use Rattle.input.specs.Input.{Input, imageTests, halftoneTests, inputTests, checkedOf}
+use Rattle.base.proofs.JudgeLaws.{judge-append, judge-from, judge-zero, passes-append}
 use Rattle.base.proofs.AnswerLaws.{is-accepted}
 use Rattle.eye.proofs.EyeLaws.{radii-status}
 
 pub input-numbered : (I : Input) → Numbered (inputTests I)
-unfolding inputTests imageTests inkTests eyeTests Numbered
+unfolding inputTests imageTests halftoneTests eyeTests Numbered
 input-numbered I = omega arith
 
--- the image's tests, then the inks' and the eye's, as code makes them
+-- the image's tests, then the eye's, as code makes them
 pub input-steps : (I : Input) →
-    judgeFrom (judgeFrom (judgeFrom accepted (imageTests (I .width) (I .height) (length (I .pixels)) (length (I .indices)) (length (I .pinned)))) (inkTests (length (I .palette)) (I .indices))) (eyeTests (I .params)) ≡ judge (inputTests I)
-unfolding inputTests imageTests inkTests eyeTests
+    judgeFrom (judgeFrom accepted (imageTests (I .width) (I .height) (length (I .pixels)) (length (I .palette)) (I .indices) (I .pinned))) (eyeTests (I .params)) ≡ judge (inputTests I)
+unfolding inputTests imageTests halftoneTests eyeTests
 input-steps I = judge-from (inputTests I) (input-numbered I)
+
+-- the eye of an accepted input passes its own
+pub eye-passes : (I : Input) → judge (inputTests I) ≡ accepted → Passes (eyeTests (I .params))
+unfolding inputTests
+eye-passes I ok = passes-append (imageTests (I .width) (I .height) (length (I .pixels)) (length (I .palette)) (I .indices) (I .pinned)) (eyeTests (I .params)) .0 (passes-of (inputTests I) (input-numbered I) ok) .1
 
 -- ---- `checkedOf`
 

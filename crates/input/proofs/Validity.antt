@@ -12,16 +12,16 @@ use Rattle.base.proofs.RefusalLaws.{Numbered, accepted-of}
 use Rattle.eye.specs.Constants.{alphaLum, alphaChroma}
 use Rattle.eye.specs.Eye.{eyeTests, kernelRadius, KernelRadius}
 use Rattle.eye.proofs.EyeLaws.{radii-fit}
-use Rattle.input.specs.Input.{Input, pixelCount, inkCount, imageTests, inkTests, inputTests, lengthTest, runTests, refineRunTests, openRunTests, findRunTests, refineTests, findTests, openTests}
+use Rattle.input.specs.Input.{Input, pixelCount, inkCount, imageTests, halftoneTests, inputTests, lengthTest, runTests, refineRunTests, openRunTests, findRunTests, refineTests, findTests, openTests}
 use Rattle.input.specs.Valid.{Valid, ValidFind, ValidRefine, ValidOpen}
 use Rattle.base.proofs.JudgeLaws.{accepted-iff, passes-append}
-use Rattle.fits.proofs.FirstUnnamed.{named-of, of-named}
+use Rattle.fits.proofs.FirstNotBelow.{all-below, none-of}
 use Rattle.fits.proofs.Limits.{size-iff, length-iff, mask-iff, palette-iff}
 use Rattle.input.proofs.EyeValidity.{eye-valid, valid-eye}
 use Rattle.input.proofs.InputLaws.{input-numbered}
 
 valid-of : (I : Input) → Passes (inputTests I) → Valid I
-unfolding inputTests imageTests inkTests Passes pixelCount inkCount
+unfolding inputTests imageTests halftoneTests Passes pixelCount inkCount
 valid-of I p =
     let size = size-iff (I .width) (I .height) .0 (p .0) in
     let palette = palette-iff (length (I .palette)) .0 (p .1 .1 .1 .1 .0) in
@@ -35,7 +35,7 @@ valid-of I p =
       palette-length = omega arith;
       inks-least = omega arith;
       inks-most = omega arith;
-      named = named-of _ _ (p .1 .1 .1 .1 .1 .0);
+      named = all-below _ _ (p .1 .1 .1 .1 .1 .0);
       eye = eye-valid (I .params) (p .1 .1 .1 .1 .1 .1);
     }
 
@@ -43,14 +43,14 @@ pub palette-whole : (I : Input) → Valid I → length (I .palette) % 3 ≡ 0
 palette-whole I v = omega (arith, v .palette-length)
 
 of-valid : (I : Input) → Valid I → Passes (inputTests I)
-unfolding inputTests imageTests inkTests Passes pixelCount inkCount
+unfolding inputTests imageTests halftoneTests Passes pixelCount inkCount
 of-valid I v =
     let size = size-iff (I .width) (I .height) .1 ((v .width-least, v .width-most), v .height-most) in
     let pixels = length-iff (length (I .pixels)) (3 * pixelCount I) .1 (v .pixels-length) in
     let indices = length-iff (length (I .indices)) (pixelCount I) .1 (v .indices-length) in
     let mask = mask-iff (length (I .pinned)) (pixelCount I) .1 (v .mask-length) in
     let palette = palette-iff (length (I .palette)) .1 (palette-whole I v, (v .inks-least, v .inks-most)) in
-    let named = of-named (inkCount I) (I .indices) (v .named) in
+    let named = none-of (inkCount I) (I .indices) (v .named) in
     (size, (pixels, (indices, (mask, (palette, (named, valid-eye (I .params) (v .eye)))))))
 
 pub valid-passes : (I : Input) → Passes (inputTests I) ↔ Valid I
@@ -95,7 +95,7 @@ module _ (I : Input) (passes cpe cpp counts inks : ℕ) where
       )
 
   pub refine-numbered : Numbered (refineTests I passes cpe cpp counts inks)
-  unfolding refineTests refineRunTests runTests inputTests imageTests inkTests eyeTests Numbered
+  unfolding refineTests refineRunTests runTests inputTests imageTests halftoneTests eyeTests Numbered
   refine-numbered = omega arith
 
   -- what refine accepts
@@ -118,7 +118,7 @@ module _ (I : Input) (cpe cpp inks : ℕ) where
       (λ p. let q = all .0 p in find-of (valid-of I (q .0)) (q .1), λ v. all .1 (of-valid I (v .valid), of-find v))
 
   pub find-numbered : Numbered (findTests I cpe cpp inks)
-  unfolding findTests findRunTests inputTests imageTests inkTests eyeTests Numbered
+  unfolding findTests findRunTests inputTests imageTests halftoneTests eyeTests Numbered
   find-numbered = omega arith
 
   -- what find_move accepts
@@ -145,7 +145,7 @@ module _ (I : Input) (passes tiles cpe cpp counts states deltas inks : ℕ) wher
       )
 
   pub open-numbered : Numbered (openTests I passes tiles cpe cpp counts states deltas inks)
-  unfolding openTests openRunTests runTests inputTests imageTests inkTests eyeTests Numbered
+  unfolding openTests openRunTests runTests inputTests imageTests halftoneTests eyeTests Numbered
   open-numbered = omega arith
 
   -- what open accepts

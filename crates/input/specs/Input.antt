@@ -44,31 +44,23 @@ sizeTest w h = test (not (sizeFits w h)) 1 0
 abbrev pub pictureTest : ℕ → ℕ → Test
 pictureTest n pixels = test (not (eqb pixels (3 * n))) 2 0
 
--- rows 3 and 4, of the halftone, for an image of n pixels: the lengths of the indices and the mask
-abbrev pub halftoneTests : ℕ → ℕ → ℕ → List Test
-halftoneTests n indices pinned =
-    test (not (eqb indices n)) 3 0  -- 'indices not n'
-    ∷ test (not (maskFits pinned n)) 4 0  -- 'mask neither 0 nor n'
-    ∷ []
-
--- rows 1 to 4, of a size and the lengths of the pixels, the indices and the mask
-unfoldable pub imageTests : ℕ → ℕ → ℕ → ℕ → ℕ → List Test
-imageTests w h pixels indices pinned = sizeTest w h ∷ pictureTest (h * w) pixels ∷ halftoneTests (h * w) indices pinned
-
--- rows 5 and 6, of the palette's length and the indices: pinned pixels have an ink too
-unfoldable pub inkTests : ℕ → List ℕ → List Test
-inkTests palette indices =
+-- rows 3 to 6, of the halftone, for an image of n pixels: the length of the palette, the indices, and the mask; pinned pixels have an ink too
+unfoldable pub halftoneTests : ℕ → ℕ → List ℕ → List ℕ → List Test
+halftoneTests n palette indices pinned =
     let place = firstUnnamed (palette / 3) indices in
-    test (not (paletteFits palette)) 5 0  -- 'palette not 3 × (1–256) bytes'
+    test (not (eqb (length indices) n)) 3 0  -- 'indices not n'
+    ∷ test (not (maskFits (length pinned) n)) 4 0  -- 'mask neither 0 nor n'
+    ∷ test (not (paletteFits palette)) 5 0  -- 'palette not 3 × (1–256) bytes'
     ∷ test (ltb place (length indices)) 6 place  -- 'an index names no ink', 'first such, from 0'
     ∷ []
 
+-- rows 1 to 6, of a size, the lengths of the pixels and the palette, the indices and the mask
+unfoldable pub imageTests : ℕ → ℕ → ℕ → ℕ → List ℕ → List ℕ → List Test
+imageTests w h pixels palette indices pinned = sizeTest w h ∷ pictureTest (h * w) pixels ∷ halftoneTests (h * w) palette indices pinned
+
 -- rows 1 to 9; with an empty mask row 4 passes, so that measuring is refused by 1, 2, 3 and 5 to 9 only
 unfoldable pub inputTests : Input → List Test
-inputTests I =
-    imageTests (I .width) (I .height) (length (I .pixels)) (length (I .indices)) (length (I .pinned))
-    ++ (inkTests (length (I .palette)) (I .indices)
-    ++ eyeTests (I .params))
+inputTests I = imageTests (I .width) (I .height) (length (I .pixels)) (length (I .palette)) (I .indices) (I .pinned) ++ eyeTests (I .params)
 
 -- their judgement, and both kernel radii where it accepts
 unfoldable pub checkedOf : Input → Eye

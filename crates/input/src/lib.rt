@@ -8,26 +8,32 @@ use eye::DbsParams;
 use eye::Eye;
 ghost use mathlib.Core.Path.{_≡_};
 ghost use Rattle.base.specs.Refusal.{next, judgeFrom};
-ghost use Rattle.input.specs.Input.{halftoneTests, imageTests, inkTests, input, checkedOf, lengthTest};
+ghost use Rattle.input.specs.Input.{halftoneTests, imageTests, input, checkedOf, lengthTest};
 
-// Refusals 3 and 4, of an image of n pixels.
-fn check_halftone(s: Status, n: usize, indices_len: usize, pinned_len: usize) -> Status
-    ensures { λ r. ⌜ r ≡ judgeFrom s (halftoneTests n «indices_len» «pinned_len») ⌝ }
+// Refusals 3 to 6, of an image of n pixels.
+fn check_halftone(s: Status, n: usize, palette_len: usize, indices: &[Index], pinned: &[u8]) -> Status
+    ensures { λ r. ⌜ r ≡ judgeFrom s (halftoneTests n «palette_len» (now (indices .entry)) (now (pinned .entry))) ⌝ }
 {
-    let s1 = base::next(s, indices_len != n, 3, 0);
-    base::next(s1, !fits::is_mask(pinned_len, n), 4, 0)
+    let mask_fits = fits::is_mask(pinned.len(), n);
+    let palette_fits = fits::is_palette(palette_len);
+    let unnamed = fits::first_unnamed(indices, palette_len / 3);
+    let s1 = base::next(s, indices.len() != n, 3, 0);
+    let s2 = base::next(s1, !mask_fits, 4, 0);
+    let s3 = base::next(s2, !palette_fits, 5, 0);
+    base::next(s3, unnamed < indices.len(), 6, unnamed as u64)
 }
 
-// Refusals 1 to 4.
+// Refusals 1 to 6.
 fn check_image(
     s: Status,
     width: u64,
     height: u64,
     pixels_len: usize,
-    indices_len: usize,
-    pinned_len: usize,
+    palette_len: usize,
+    indices: &[Index],
+    pinned: &[u8],
 ) -> Status
-    ensures { λ r. ⌜ r ≡ judgeFrom s (imageTests width height «pixels_len» «indices_len» «pinned_len») ⌝ }
+    ensures { λ r. ⌜ r ≡ judgeFrom s (imageTests width height «pixels_len» «palette_len» (now (indices .entry)) (now (pinned .entry))) ⌝ }
 {
     let s1 = base::next(s, !fits::is_size(width, height), 1, 0);
     if s1.number != 0 {
@@ -35,17 +41,7 @@ fn check_image(
     }
     let n = height as usize * width as usize;
     let s2 = base::next(s1, pixels_len != 3 * n, 2, 0);
-    check_halftone(s2, n, indices_len, pinned_len)
-}
-
-// Refusals 5 and 6.
-fn check_inks(s: Status, palette_len: usize, indices: &[Index]) -> Status
-    ensures { λ r. ⌜ r ≡ judgeFrom s (inkTests «palette_len» (now (indices .entry))) ⌝ }
-{
-    let place = fits::first_unnamed(indices, palette_len / 3);
-    let palette_fits = fits::is_palette(palette_len);
-    let s1 = base::next(s, !palette_fits, 5, 0);
-    base::next(s1, place < indices.len(), 6, place as u64)
+    check_halftone(s2, n, palette_len, indices, pinned)
 }
 
 // Refusals 1 to 9, and both kernel radii where none applies. Measuring lends an empty mask.
@@ -65,11 +61,11 @@ pub fn check_input(
         width,
         height,
         pixels.len(),
-        indices.len(),
-        pinned.len(),
+        palette.len(),
+        indices,
+        pinned,
     );
-    let inks = check_inks(image, palette.len(), indices);
-    eye::check_eye(inks, params)
+    eye::check_eye(image, params)
 }
 
 // The next line of refusal 11.

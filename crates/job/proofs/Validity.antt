@@ -19,7 +19,7 @@ use Rattle.eye.specs.Eye.{KernelRadius}
 use Rattle.tiling.specs.Tiling.{tiles, inPhase, tile, region}
 use Rattle.fits.specs.Fits.{isWithin as within, maskFits}
 use Rattle.base.proofs.JudgeLaws.{passes-append}
-use Rattle.fits.proofs.FirstUnnamed.{named-of, of-named}
+use Rattle.fits.proofs.FirstNotBelow.{all-below, none-of}
 use Rattle.tile.specs.Tile.{State}
 use Rattle.job.specs.declared.JobRecord.{JobRecord}
 use Rattle.job.specs.declared.TileState.the-variants.{Waiting, Out}
@@ -196,7 +196,7 @@ module _ (r : JobRecord) (t : ℕ) (image : Pixels) (states : List ℕ) where
             deltas-length = equal-of _ _ (c .1 .1 .1 .1 .1 .0);
             room = record { cpe-length = equal-of _ _ (c .1 .1 .1 .1 .1 .1 .0); indices-length = equal-of _ _ (c .1 .1 .1 .1 .1 .1 .1 .0) };
             out = equal-of _ _ (rw (out-byte states t) at (c .1 .1 .1 .1 .1 .1 .1 .1 .0));
-            named = named-of _ _ (c .1 .1 .1 .1 .1 .1 .1 .1 .1 .0);
+            named = all-below _ _ (c .1 .1 .1 .1 .1 .1 .1 .1 .1 .0);
           },
       λ v.
           let count = of-count (v .count-most) (v .total-most) in
@@ -208,7 +208,7 @@ module _ (r : JobRecord) (t : ℕ) (image : Pixels) (states : List ℕ) where
           let copy-cpe = of-equal (length (made .cpe)) (3 * area (region (r .plan .tiling) t)) (v .room .cpe-length) in
           let copy-indices = of-equal (length (made .indices)) (area (region (r .plan .tiling) t)) (v .room .indices-length) in
           let out : not (isIn Out states t) ≡ false = rw (out-byte states t) (of-equal (getD states t 0) 1 (v .out)) in
-          let named = of-named (r .plan .inks) (made .indices) (v .named) in
+          let named = none-of (r .plan .inks) (made .indices) (v .named) in
           passes-append (recordTests r) _ .1 (of-record r (v .on .valid), (count, (v .on .unfinished, (tile, (indices, (cpe, (bytes, (floats, (copy-cpe, (copy-indices, (out, (named, tt)))))))))))),
     )
 
@@ -226,7 +226,7 @@ module _ (r : JobRecord) (t : ℕ) (pinned : List ℕ) (cpp : List Float) (copy 
           cpp-length = equal-of _ _ (c .1 .1 .0);
           room = record { cpe-length = equal-of _ _ (c .1 .1 .1 .0); indices-length = equal-of _ _ (c .1 .1 .1 .1 .0) };
           inks-length = equal-of _ _ (c .1 .1 .1 .1 .1 .0);
-          named = named-of _ _ (c .1 .1 .1 .1 .1 .1 .0);
+          named = all-below _ _ (c .1 .1 .1 .1 .1 .1 .0);
         },
     λ v.
         let tile = ap not (lt-ltb _ _ (v .tile-has)) in
@@ -235,7 +235,7 @@ module _ (r : JobRecord) (t : ℕ) (pinned : List ℕ) (cpp : List Float) (copy 
         let copy-cpe = of-equal (length (copy .cpe)) (3 * area (region (r .plan .tiling) t)) (v .room .cpe-length) in
         let copy-indices = of-equal (length (copy .indices)) (area (region (r .plan .tiling) t)) (v .room .indices-length) in
         let values = of-equal (length inks) (3 * r .plan .inks) (v .inks-length) in
-        let named = of-named (r .plan .inks) (copy .indices) (v .named) in
+        let named = none-of (r .plan .inks) (copy .indices) (v .named) in
         passes-append (recordTests r) _ .1 (of-record r (v .valid), (tile, (mask, (kernels, (copy-cpe, (copy-indices, (values, (named, tt)))))))),
   )
 

@@ -19,8 +19,8 @@ use Rattle.sweep.specs.Sweep.{sweepPixel, sweepRow, sweepOf, addKernels}
 use Rattle.search.specs.Search.{centreOf, besideOf, centres, gaps, toggleCost, swapCost, tryToggle, toggles, partnerOf, trySwap, swaps, evaluateOf}
 use Rattle.moves.specs.Moves.{movedIndices, movedCpe}
 use Rattle.tile.specs.Tile.{applied, visitOf, refineRow, refineTile}
-use Rattle.fits.specs.Fits.{firstUnnamed}
-use Rattle.input.specs.Input.{pixelCount, inkCount, imageTests, inkTests, inputTests, runTests, openRunTests, openTests}
+use Rattle.fits.specs.Fits.{firstNotBelow}
+use Rattle.input.specs.Input.{pixelCount, inkCount, imageTests, halftoneTests, inputTests, runTests, openRunTests, openTests}
 use Rattle.error.specs.Error.{channelError, initialError}
 use Rattle.prepare.specs.Prepare.{tilingOf, errorOf}
 use Rattle.job.specs.Record.{pixelsOf, jobShared, radiusFits, recordTests, isDue, stateOf, inState}
@@ -56,7 +56,7 @@ flat passes counts = record {
 }
 
 no-passes : (openOf (flat 0 []) .status ≡ accepted) × (openOf (flat 0 []) .rec .finished ≡ true)
-unfolding flat openOf openTestsOf firstRecord isAccepted judge openTests openRunTests runTests inputTests imageTests inkTests eyeTests firstUnnamed pixelCount inkCount tilingOf kernelRadius blurRadius ceil sigmaPx toDegrees isFinitePositive tiles rows columns side margin add mul div lt ofBits ofInt
+unfolding flat openOf openTestsOf firstRecord isAccepted judge openTests openRunTests runTests inputTests imageTests halftoneTests eyeTests firstNotBelow pixelCount inkCount tilingOf kernelRadius blurRadius ceil sigmaPx toDegrees isFinitePositive tiles rows columns side margin add mul div lt ofBits ofInt
 no-passes = (refl, refl)
 
 -- the four closes of a pass
@@ -65,7 +65,7 @@ closed J = after J (close own own own)
 
 no-rows : let J = closed (closed (closed (closed (start (replicate 12 5) (flat 2 (7 ∷ 7 ∷ [])))))) in
     (rec J .done ≡ 1) × (rec J .phase ≡ 0) × (rec J .finished ≡ true) × (J .counts ≡ 0 ∷ 7 ∷ []) × (rec J .error ≡ f0)
-unfolding flat closed start ran openRun openedOver wordsOpened onRun closeRun closedOver wordsAfter wordsTests runTest decode encode rewritten wordsWith wordOver closeOf closeTests recordTests radiusFits pixelsOf firstOf isMissing nextRecord nextWith withDeltas released openOf openTestsOf firstRecord isAccepted judge openTests openRunTests runTests inputTests imageTests inkTests eyeTests firstUnnamed pixelCount inkCount tilingOf kernelRadius blurRadius ceil sigmaPx toDegrees isFinitePositive tiles rows columns side margin errorOf initialError channelError upTo table add mul div lt ofBits ofInt toBits isNan nanBits
+unfolding flat closed start ran openRun openedOver wordsOpened onRun closeRun closedOver wordsAfter wordsTests runTest decode encode rewritten wordsWith wordOver closeOf closeTests recordTests radiusFits pixelsOf firstOf isMissing nextRecord nextWith withDeltas released openOf openTestsOf firstRecord isAccepted judge openTests openRunTests runTests inputTests imageTests halftoneTests eyeTests firstNotBelow pixelCount inkCount tilingOf kernelRadius blurRadius ceil sigmaPx toDegrees isFinitePositive tiles rows columns side margin errorOf initialError channelError upTo table add mul div lt ofBits ofInt toBits isNan nanBits
 no-rows = (refl, refl, refl, refl, refl)
 
 -- ---- a job on two pixels: hand kernel H (1.0 at the centre, else 0), ink values (0, 0, 0) and (1, 0, 0), indices 1 0, targets 0 1
@@ -106,5 +106,5 @@ backOne = after tookOne (putBack 0 own own own own (workedOne .made))
 -- 'H, indices 1 0, targets 0 1: swap, −2', shared and closed
 one-swap : let J = closed (closed (closed (closed backOne))) in
     (workedOne .made .progress ≡ record { accepted = 1; delta = neg f2 }) × (J .image .indices ≡ 0 ∷ 1 ∷ []) × (J .counts ≡ 1 ∷ 7 ∷ 7 ∷ []) × (rec J .done ≡ 1) × (rec J .error ≡ f0) × (rec J .finished ≡ false)
-unfolding two tookOne workedOne backOne handKernels twoInks closed ran takeRun workRun putBackRun putBackOver closeRun closedOver onRun wordsAfter wordsTests runTest decode encode rewritten wordsWith wordOver toBits isNan nanBits takeOf takeTests copyOf isDue inState workOf workTests copyTest jobShared refinedCopy putBackOf putBackTests countTest withProgress writtenBack stateOf closeOf closeTests recordTests radiusFits pixelsOf firstOf isMissing nextRecord nextWith withDeltas released isAccepted judge firstUnnamed image tile region tileX tileY inPhase tiles rows columns side margin crop paste cell put place columnAt rowAt valueAt inside area width height refineTile refineRow visitOf applied evaluateOf swaps trySwap partnerOf toggles tryToggle centres centreOf gaps besideOf toggleCost swapCost kernelAt pinnedAt movedIndices movedCpe addKernels sweepOf sweepRow sweepPixel addAt grow fromTo upTo table add sub mul div neg lt ofBits
+unfolding two tookOne workedOne backOne handKernels twoInks closed ran takeRun workRun putBackRun putBackOver closeRun closedOver onRun wordsAfter wordsTests runTest decode encode rewritten wordsWith wordOver toBits isNan nanBits takeOf takeTests copyOf isDue inState workOf workTests copyTest jobShared refinedCopy putBackOf putBackTests countTest withProgress writtenBack stateOf closeOf closeTests recordTests radiusFits pixelsOf firstOf isMissing nextRecord nextWith withDeltas released isAccepted judge firstNotBelow image tile region tileX tileY inPhase tiles rows columns side margin crop paste cell put place columnAt rowAt valueAt inside area width height refineTile refineRow visitOf applied evaluateOf swaps trySwap partnerOf toggles tryToggle centres centreOf gaps besideOf toggleCost swapCost kernelAt pinnedAt movedIndices movedCpe addKernels sweepOf sweepRow sweepPixel addAt grow fromTo upTo table add sub mul div neg lt ofBits
 one-swap = (refl, refl, refl, refl, refl, refl)

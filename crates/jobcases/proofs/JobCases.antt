@@ -27,8 +27,8 @@ use Rattle.moves.specs.Moves.{movedIndices, movedCpe}
 use Rattle.tile.specs.Tile.{State, applied, visitOf, refineRow, refineTile}
 use Rattle.error.specs.Error.{halftoneAt, colourAt, targetAt, errorAt, errorTerm, channelError, initialError}
 use Rattle.field.specs.Field.{correlateTerm, correlateRow, correlateAt, channelKernel, fieldAt, fieldValue, fieldOf}
-use Rattle.fits.specs.Fits.{firstUnnamed}
-use Rattle.input.specs.Input.{pixelCount, inkCount, imageTests, inkTests, inputTests, runTests, openRunTests, openTests}
+use Rattle.fits.specs.Fits.{firstNotBelow}
+use Rattle.input.specs.Input.{pixelCount, inkCount, imageTests, halftoneTests, inputTests, runTests, openRunTests, openTests}
 use Rattle.prepare.specs.Prepare.{tilingOf, inksOf, cppOf, sceneOf, cpeOf, errorOf}
 use Rattle.job.specs.Record.{pixelsOf, jobShared, radiusFits, recordTests, isDue, stateOf, inState}
 use Rattle.job.specs.Words.{runTest, wordsTests, decode, wordsWith, encode, wordOver, rewritten}
@@ -139,15 +139,15 @@ unfolding twoPixels first tilingOf errorOf initialError channelError errorTerm s
 error-is = rw cpe-is
 
 opens : start ≡ first
-unfolding twoPixels opened start first openRun openedOver wordsOpened runTest openOf openTestsOf firstRecord encode wordsWith isAccepted judge openTests openRunTests runTests inputTests imageTests inkTests eyeTests firstUnnamed pixelCount inkCount tilingOf kernelRadius blurRadius ceil sigmaPx toDegrees isFinitePositive tiles rows columns side margin add mul div lt round ofBits ofInt toBits
+unfolding twoPixels opened start first openRun openedOver wordsOpened runTest openOf openTestsOf firstRecord encode wordsWith isAccepted judge openTests openRunTests runTests inputTests imageTests halftoneTests eyeTests firstNotBelow pixelCount inkCount tilingOf kernelRadius blurRadius ceil sigmaPx toDegrees isFinitePositive tiles rows columns side margin add mul div lt round ofBits ofInt toBits
 opens = rw (cpe-is, error-is)
 
 pass-one : aPass first ≡ second
-unfolding twoPixels opened taken takeOut made bringBack closed aPass first second openRun openedOver wordsOpened runTest openOf openTestsOf firstRecord encode wordsWith isAccepted judge openTests openRunTests runTests inputTests imageTests inkTests eyeTests firstUnnamed pixelCount inkCount tilingOf kernelRadius blurRadius ceil sigmaPx toDegrees isFinitePositive tiles rows columns side margin cpeOf cppOf sceneOf inksOf inkValues inkValue ink channel errorOf initialError channelError errorTerm fieldOf fieldValue fieldAt channelKernel correlateAt correlateRow correlateTerm errorAt targetAt colourAt halftoneAt yycxcz linear srgbToLinear pinnedAt kernelAt eyeKernels overwrite kernelOf autocorrelation correlationAt rowSum gaussianBlur blurOf blurAt sumOf gaussianLine gaussianAt expOf squared series upTo fromTo table add sub mul div neg lt round ofBits ofInt toBits takeRun takeOf takeTests copyOf isDue inState workRun workOf workTests copyTest jobShared refinedCopy putBackRun putBackOf putBackTests countTest withProgress writtenBack stateOf closeRun closeOf closeTests wordsTests wordsAfter rewritten wordOver decode recordTests radiusFits pixelsOf firstOf isMissing nextRecord nextWith withDeltas released image tile region tileX tileY inPhase crop paste cell put place columnAt rowAt valueAt inside area width height refineTile refineRow visitOf applied evaluateOf swaps trySwap partnerOf toggles tryToggle centres centreOf gaps besideOf toggleCost swapCost movedIndices movedCpe addKernels sweepOf sweepRow sweepPixel addAt grow isNan nanBits onRun putBackOver closedOver
+unfolding twoPixels opened taken takeOut made bringBack closed aPass first second openRun openedOver wordsOpened runTest openOf openTestsOf firstRecord encode wordsWith isAccepted judge openTests openRunTests runTests inputTests imageTests halftoneTests eyeTests firstNotBelow pixelCount inkCount tilingOf kernelRadius blurRadius ceil sigmaPx toDegrees isFinitePositive tiles rows columns side margin cpeOf cppOf sceneOf inksOf inkValues inkValue ink channel errorOf initialError channelError errorTerm fieldOf fieldValue fieldAt channelKernel correlateAt correlateRow correlateTerm errorAt targetAt colourAt halftoneAt yycxcz linear srgbToLinear pinnedAt kernelAt eyeKernels overwrite kernelOf autocorrelation correlationAt rowSum gaussianBlur blurOf blurAt sumOf gaussianLine gaussianAt expOf squared series upTo fromTo table add sub mul div neg lt round ofBits ofInt toBits takeRun takeOf takeTests copyOf isDue inState workRun workOf workTests copyTest jobShared refinedCopy putBackRun putBackOf putBackTests countTest withProgress writtenBack stateOf closeRun closeOf closeTests wordsTests wordsAfter rewritten wordOver decode recordTests radiusFits pixelsOf firstOf isMissing nextRecord nextWith withDeltas released image tile region tileX tileY inPhase crop paste cell put place columnAt rowAt valueAt inside area width height refineTile refineRow visitOf applied evaluateOf swaps trySwap partnerOf toggles tryToggle centres centreOf gaps besideOf toggleCost swapCost movedIndices movedCpe addKernels sweepOf sweepRow sweepPixel addAt grow isNan nanBits onRun putBackOver closedOver
 pass-one = refl
 
 pass-two : aPass second ≡ last
-unfolding twoPixels opened taken takeOut made bringBack closed aPass second last openRun openedOver wordsOpened runTest openOf openTestsOf firstRecord encode wordsWith isAccepted judge openTests openRunTests runTests inputTests imageTests inkTests eyeTests firstUnnamed pixelCount inkCount tilingOf kernelRadius blurRadius ceil sigmaPx toDegrees isFinitePositive tiles rows columns side margin cpeOf cppOf sceneOf inksOf inkValues inkValue ink channel errorOf initialError channelError errorTerm fieldOf fieldValue fieldAt channelKernel correlateAt correlateRow correlateTerm errorAt targetAt colourAt halftoneAt yycxcz linear srgbToLinear pinnedAt kernelAt eyeKernels overwrite kernelOf autocorrelation correlationAt rowSum gaussianBlur blurOf blurAt sumOf gaussianLine gaussianAt expOf squared series upTo fromTo table add sub mul div neg lt round ofBits ofInt toBits takeRun takeOf takeTests copyOf isDue inState workRun workOf workTests copyTest jobShared refinedCopy putBackRun putBackOf putBackTests countTest withProgress writtenBack stateOf closeRun closeOf closeTests wordsTests wordsAfter rewritten wordOver decode recordTests radiusFits pixelsOf firstOf isMissing nextRecord nextWith withDeltas released image tile region tileX tileY inPhase crop paste cell put place columnAt rowAt valueAt inside area width height refineTile refineRow visitOf applied evaluateOf swaps trySwap partnerOf toggles tryToggle centres centreOf gaps besideOf toggleCost swapCost movedIndices movedCpe addKernels sweepOf sweepRow sweepPixel addAt grow isNan nanBits onRun putBackOver closedOver
+unfolding twoPixels opened taken takeOut made bringBack closed aPass second last openRun openedOver wordsOpened runTest openOf openTestsOf firstRecord encode wordsWith isAccepted judge openTests openRunTests runTests inputTests imageTests halftoneTests eyeTests firstNotBelow pixelCount inkCount tilingOf kernelRadius blurRadius ceil sigmaPx toDegrees isFinitePositive tiles rows columns side margin cpeOf cppOf sceneOf inksOf inkValues inkValue ink channel errorOf initialError channelError errorTerm fieldOf fieldValue fieldAt channelKernel correlateAt correlateRow correlateTerm errorAt targetAt colourAt halftoneAt yycxcz linear srgbToLinear pinnedAt kernelAt eyeKernels overwrite kernelOf autocorrelation correlationAt rowSum gaussianBlur blurOf blurAt sumOf gaussianLine gaussianAt expOf squared series upTo fromTo table add sub mul div neg lt round ofBits ofInt toBits takeRun takeOf takeTests copyOf isDue inState workRun workOf workTests copyTest jobShared refinedCopy putBackRun putBackOf putBackTests countTest withProgress writtenBack stateOf closeRun closeOf closeTests wordsTests wordsAfter rewritten wordOver decode recordTests radiusFits pixelsOf firstOf isMissing nextRecord nextWith withDeltas released image tile region tileX tileY inPhase crop paste cell put place columnAt rowAt valueAt inside area width height refineTile refineRow visitOf applied evaluateOf swaps trySwap partnerOf toggles tryToggle centres centreOf gaps besideOf toggleCost swapCost movedIndices movedCpe addKernels sweepOf sweepRow sweepPixel addAt grow isNan nanBits onRun putBackOver closedOver
 pass-two = refl
 
 -- 'indices 0 1', 'passes 2', 'accepted 1 0'
@@ -187,5 +187,5 @@ descending : closed (bringBack 0 (made mask handKernels inks 0 67 strip) (bringB
   states = 0 ∷ 0 ∷ 0 ∷ [];
   deltas = f64 0xbff0000000000000 ∷ nan ∷ f64 0xc33fffffffffffff ∷ [];
 }
-unfolding strip mask handKernels inks oneOut taken takeOut made bringBack closed runTest judge isAccepted firstUnnamed tiles rows columns side margin pinnedAt kernelAt wordsWith upTo fromTo table add sub mul div neg lt round ofBits toBits takeRun takeOf takeTests copyOf isDue inState workRun workOf workTests copyTest jobShared refinedCopy putBackRun putBackOf putBackTests countTest withProgress writtenBack stateOf closeRun closeOf closeTests wordsTests wordsAfter rewritten wordOver decode recordTests radiusFits pixelsOf firstOf isMissing nextRecord nextWith withDeltas released image tile region tileX tileY inPhase crop paste cell put place columnAt rowAt valueAt inside area width height refineTile refineRow visitOf applied evaluateOf swaps trySwap partnerOf toggles tryToggle centres centreOf gaps besideOf toggleCost swapCost movedIndices movedCpe addKernels sweepOf sweepRow sweepPixel addAt grow isNan nanBits onRun putBackOver closedOver
+unfolding strip mask handKernels inks oneOut taken takeOut made bringBack closed runTest judge isAccepted firstNotBelow tiles rows columns side margin pinnedAt kernelAt wordsWith upTo fromTo table add sub mul div neg lt round ofBits toBits takeRun takeOf takeTests copyOf isDue inState workRun workOf workTests copyTest jobShared refinedCopy putBackRun putBackOf putBackTests countTest withProgress writtenBack stateOf closeRun closeOf closeTests wordsTests wordsAfter rewritten wordOver decode recordTests radiusFits pixelsOf firstOf isMissing nextRecord nextWith withDeltas released image tile region tileX tileY inPhase crop paste cell put place columnAt rowAt valueAt inside area width height refineTile refineRow visitOf applied evaluateOf swaps trySwap partnerOf toggles tryToggle centres centreOf gaps besideOf toggleCost swapCost movedIndices movedCpe addKernels sweepOf sweepRow sweepPixel addAt grow isNan nanBits onRun putBackOver closedOver
 descending = refl

@@ -7,19 +7,17 @@ use lib.ListN.{length}
 use lib.Ieee.{Float}
 use Rattle.base.specs.Limits.{maxInks}
 use Rattle.base.specs.Refusal.{judge, accepted}
-use Rattle.base.proofs.RefusalLaws.{passes-of}
 use Rattle.base.proofs.TableLaws.{length-table}
 use Rattle.color.specs.Inks.{inkValues}
 use Rattle.color.proofs.InkLaws.{length-inks}
 use Rattle.eye.specs.Constants.{alphaLum, alphaChroma}
-use Rattle.eye.specs.Eye.{sigmaPx, blurRadius, Narrow, eyeTests}
+use Rattle.eye.specs.Eye.{sigmaPx, blurRadius, Narrow}
 use Rattle.eye.proofs.EyeLaws.{narrow-both}
 use Rattle.blur.specs.Blur.{values, gaussianLine, blurOf, gaussianBlur}
 use Rattle.error.specs.Error.{scene, SceneFits}
-use Rattle.input.specs.Input.{Input, input, pixelCount, inputTests, imageTests, inkTests}
+use Rattle.input.specs.Input.{Input, input, pixelCount, inputTests}
 use Rattle.input.specs.Valid.{Valid}
-use Rattle.input.proofs.InputLaws.{input-numbered}
-use Rattle.base.proofs.JudgeLaws.{passes-append}
+use Rattle.input.proofs.InputLaws.{eye-passes}
 use Rattle.input.proofs.Validity.{valid-iff}
 use Rattle.measure.specs.Measure.{frame, perceivedOf, FrameFits}
 use Rattle.measuring.specs.Measuring.{Blur, measuredError}
@@ -40,11 +38,7 @@ module _ (I : Input) (ok : judge (inputTests I) ≡ accepted) where
 
   -- both blurs of its eye
   pub narrow : Narrow (sigmaPx alphaLum (I .params)) × Narrow (sigmaPx alphaChroma (I .params))
-  unfolding inputTests
-  narrow =
-      let p = passes-of (inputTests I) (input-numbered I) ok in
-      let q = passes-append (imageTests (I .width) (I .height) (length (I .pixels)) (length (I .indices)) (length (I .pinned))) _ .0 p .1 in
-      narrow-both (I .params) (passes-append (inkTests (length (I .palette)) (I .indices)) (eyeTests (I .params)) .0 q .1)
+  narrow = narrow-both (I .params) (eye-passes I ok)
 
   pub few-inks : length (I .palette) ≤ 3 * maxInks
   few-inks = omega (arith, valid .palette-length, valid .inks-most)

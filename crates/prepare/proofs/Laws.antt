@@ -10,7 +10,7 @@ use lib.Ieee.{Float}
 use Rattle.base.specs.Limits.{cppLength}
 use Rattle.base.specs.Grid.{area, width, height}
 use Rattle.base.specs.Refusal.{judge, accepted}
-use Rattle.base.proofs.RefusalLaws.{accepted-of, passes-of}
+use Rattle.base.proofs.RefusalLaws.{accepted-of}
 use Rattle.base.proofs.TableLaws.{length-table}
 use Rattle.tiling.specs.declared.Tiling.{Tiling}
 use Rattle.tiling.specs.Tiling.{Limits, image}
@@ -22,10 +22,9 @@ use Rattle.kernel.specs.Kernel.{eyeKernels}
 use Rattle.kernel.proofs.KernelLaws.{length-eyeKernels}
 use Rattle.error.specs.Error.{Scene, scene, SceneFits, initialError}
 use Rattle.field.specs.Field.{FieldFits, fieldOf}
-use Rattle.input.specs.Input.{Input, input, pixelCount, inkCount, inputTests, imageTests, inkTests}
+use Rattle.input.specs.Input.{Input, input, pixelCount, inkCount, inputTests}
 use Rattle.input.specs.Valid.{Valid}
-use Rattle.input.proofs.InputLaws.{input-numbered}
-use Rattle.base.proofs.JudgeLaws.{passes-append}
+use Rattle.input.proofs.InputLaws.{eye-passes}
 use Rattle.input.proofs.Validity.{valid-iff}
 use Rattle.sizes.proofs.Laws.{tiling-limits}
 use Rattle.search.specs.Shared.{Ready, shared}
@@ -41,11 +40,7 @@ module _ (I : Input) (ok : judge (inputTests I) ≡ accepted) where
   valid = valid-iff I .0 ok
 
   pub eye-ok : judge (eyeTests (I .params)) ≡ accepted
-  unfolding inputTests
-  eye-ok =
-      let p = passes-of (inputTests I) (input-numbered I) ok in
-      let q = passes-append (imageTests (I .width) (I .height) (length (I .pixels)) (length (I .indices)) (length (I .pinned))) _ .0 p .1 in
-      accepted-of (eyeTests (I .params)) (passes-append (inkTests (length (I .palette)) (I .indices)) (eyeTests (I .params)) .0 q .1)
+  eye-ok = accepted-of (eyeTests (I .params)) (eye-passes I ok)
 
   pub palette-whole : length (I .palette) % 3 ≡ 0
   palette-whole = ap (λ (n : ℕ). n % 3) (valid .palette-length) ∙ mul-mod-right 3 (inkCount I)

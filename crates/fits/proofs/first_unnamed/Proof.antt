@@ -1,17 +1,16 @@
--- `first_unnamed` meets its contract. The loop's invariant: every index before i names an ink, so the first that does not lies i further
--- than in the rest of the list. Assumes nothing.
-use Prim.Native.Nat.{_+_, _-_, _≤_}
-use mathlib.Core.Path.{_≡_}
+-- `first_unnamed` meets its contract. The loop's invariant: the first index that names no ink is not before i. Assumes nothing.
+use Prim.Native.Nat.{_-_, _≤_}
+use mathlib.Core.Path.{sym}
 use native.Mathlib.Omega.{arith}
 use borrow.Author.Needs.{needs}
-use lib.ListN.{length, drop}
+use lib.ListN.{length}
 use Rattle.fits.specs.Fits.{firstUnnamed}
-use Rattle.fits.proofs.FirstUnnamed.{unnamed-at, named-at, first-is}
+use Rattle.fits.proofs.FirstNotBelow.{found, goes-on, first-is}
 use Rattle.fits.proofs.first_unnamed.Statement.{statement}
 use Rattle.fits.proofs.first_unnamed.Tie as tie
 
 abbrev Inv-loop : tie.InvT-loop
-Inv-loop indices n i₀ i = (i ≤ length indices) × (firstUnnamed n indices ≡ i + firstUnnamed n (drop i indices))
+Inv-loop indices n i₀ i = i ≤ firstUnnamed n indices
 
 abbrev μ-loop : tie.MeasureT-loop
 μ-loop indices n i₀ i = length indices - i
@@ -30,7 +29,7 @@ returns c =
     let turn = c .before .before .before in
     let at = turn .before in
     let start = at .before .before in
-    omega (arith, at .loop .inv .1, unnamed-at (start .args .n) (start .args .indices .now) (at .loop .i) (turn .loop-test .taken) (omega (arith, c .before .wide .ensures)))
+    sym (found (start .args .n) (start .args .indices .now) (at .loop .i) (turn .loop-test .taken) (at .loop .inv) (omega (arith, c .before .wide .ensures)))
 
 add-i : tie.Need-add-i Inv-loop μ-loop
 add-i c = search needs
@@ -43,7 +42,7 @@ loop-again c =
     let turn = c .before .before .before in
     let at = turn .before in
     let start = at .before .before in
-    omega (arith, at .loop .inv .1, named-at (start .args .n) (start .args .indices .now) (at .loop .i) (turn .loop-test .taken) (omega (arith, c .before .wide .ensures)))
+    omega (arith, goes-on (start .args .n) (start .args .indices .now) (at .loop .i) (turn .loop-test .taken) (at .loop .inv) (omega (arith, c .before .wide .ensures)))
 
 returns-2 : tie.Need-returns-2 Inv-loop μ-loop
 returns-2 c = omega (arith, first-is (c .before .before .before .args .n) (c .before .before .before .args .indices .now) .bound)

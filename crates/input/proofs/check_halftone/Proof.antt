@@ -1,19 +1,46 @@
--- `check_halftone` meets its contract: it makes its two tests one after the other. Assumes nothing.
+-- `check_halftone` meets its contract: it makes its tests one after the other. Assumes nothing.
+use Rattle.input.specs.Input.{halftoneTests}
 use borrow.Author.Needs.{needs}
 use Rattle.input.proofs.check_halftone.Statement.{statement}
 use Rattle.input.proofs.check_halftone.Tie as tie
 
-next-requires : tie.Need-next-requires
-next-requires c κs = search needs
-
 is-mask-requires : tie.Need-is-mask-requires
 is-mask-requires c κs = search needs
+
+is-palette-requires : tie.Need-is-palette-requires
+is-palette-requires c κs = search needs
+
+first-unnamed-requires : tie.Need-first-unnamed-requires
+first-unnamed-requires c κs = search needs
+
+next-requires : tie.Need-next-requires
+next-requires c κs = search needs
 
 next-requires-2 : tie.Need-next-requires-2
 next-requires-2 c κs = search needs
 
+next-requires-3 : tie.Need-next-requires-3
+next-requires-3 c κs = search needs
+
+next-requires-4 : tie.Need-next-requires-4
+next-requires-4 c κs = search needs
+
 returns : tie.Need-returns
-returns c = rw (c .next2 .ensures, c .before .is-mask .ensures, c .before .before .next .ensures)
+unfolding halftoneTests
+returns c =
+    let first = c .before .before .before in
+    let told = first .before in
+    rw (c .next4 .ensures, c .before .next3 .ensures, c .before .before .next2 .ensures, first .next .ensures, told .first-unnamed .ensures, told .before .is-palette .ensures, told .before .before .is-mask .ensures)
 
 pub check-halftone-spec : {M : Type 1} → statement M
-check-halftone-spec = tie.close (tie.spec next-requires is-mask-requires next-requires-2 returns)
+check-halftone-spec =
+    tie.close
+    (tie.spec
+    is-mask-requires
+    is-palette-requires
+    first-unnamed-requires
+    next-requires
+    next-requires-2
+    next-requires-3
+    next-requires-4
+    returns)

@@ -11,19 +11,22 @@ use Rattle.base.proofs.Bounds.{image-product}
 use Rattle.base.proofs.RefusalLaws.{Numbered}
 use Rattle.base.proofs.JudgeLaws.{stays, zero-from}
 use Rattle.fits.specs.Fits.{sizeFits}
-use Rattle.input.specs.Input.{imageTests}
+use Rattle.input.specs.Input.{imageTests, halftoneTests}
 use Rattle.fits.proofs.Limits.{size-iff}
 use borrow.Author.Needs.{needs}
 use Rattle.input.proofs.check_image.Statement.{statement}
 use Rattle.input.proofs.check_image.Tie as tie
 
-first : (c : tie.After-next) → let a = c .before .before .args in c .next .result ≡ next (a .s) (test (not (sizeFits (a .width) (a .height))) 1 0)
+first : (c : tie.After-next) → let a = c .before .before .before .before .args in c .next .result ≡ next (a .s) (test (not (sizeFits (a .width) (a .height))) 1 0)
 first c = rw (c .next .ensures, c .before .is-size .ensures)
 
-product : (c : tie.Else1) → c .before .before .before .before .args .height * c .before .before .before .before .args .width ≤ maxPixels
+abbrev Given : (c : tie.Else1) → tie.Start
+Given c = let sized = c .before .before .before in sized .before .before .before
+
+product : (c : tie.Else1) → Given c .args .height * Given c .args .width ≤ maxPixels
 unfolding Numbered Passes
 product c =
-    let a = c .before .before .before .before .args in
+    let a = Given c .args in
     let p = zero-from (a .s) (_ ∷ []) (omega arith) (ap (λ (u : Status). u .number) (sym (first (c .before .before))) ∙ c .if1 .left) in
     let h = size-iff (a .width) (a .height) .0 (p .1 .0) in
     image-product (a .height) (a .width) (h .1) (h .0 .1)
@@ -35,8 +38,8 @@ next-requires : tie.Need-next-requires
 next-requires c κs = search needs
 
 returns : tie.Need-returns
-unfolding imageTests
-returns c = rw (← first (c .before .before)) (stays _ (_ ∷ _ ∷ _ ∷ []) (c .if1 .taken))
+unfolding imageTests halftoneTests
+returns c = rw (← first (c .before .before)) (stays _ (_ ∷ _ ∷ _ ∷ _ ∷ _ ∷ []) (c .if1 .taken))
 
 mul-n : tie.Need-mul-n
 mul-n c = omega (arith, product c)
