@@ -2,16 +2,25 @@
 
 use crate::light_table::SRGB_TO_LINEAR_LUT;
 
+#[derive(Clone)]
 pub struct Image {
     pub width: usize,
     pub height: usize,
     pub pixels: Vec<u8>,
     pub palette: Vec<u8>,
     pub indices: Vec<u8>,
-    /// Empty, or a byte for each pixel.
+    /// Empty, or a byte for each pixel: 1 where it is pinned, else 0.
     pub pinned: Vec<u8>,
     pub ppi: f64,
     pub viewing_distance_cm: f64,
+}
+
+impl Image {
+    /// The same with a mask that pins nothing. Every move stays as it is, so that a refinement differs from the one
+    /// without a mask in nothing but reading it; with a caption pinned, fewer pixels are weighed.
+    pub fn with_free_mask(&self) -> Self {
+        Self { pinned: vec![0; self.indices.len()], ..self.clone() }
+    }
 }
 
 /// The halftone that a refinement starts from.

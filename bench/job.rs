@@ -3,7 +3,7 @@
 use std::sync::{Condvar, Mutex};
 
 use crate::image::Image;
-use crate::library::{dbs_close, dbs_open, dbs_put_back, dbs_take, dbs_work, Status};
+use crate::library::{dbs_close, dbs_open, dbs_put_back, dbs_take, dbs_work, Status, Worked};
 use crate::outcome::Outcome;
 use crate::times::Times;
 
@@ -120,9 +120,18 @@ struct Fixed<'a> {
 }
 
 /// A worker's own copy of a region.
+#[derive(Clone)]
 struct Copy {
     cpe: Vec<f64>,
     indices: Vec<u8>,
+}
+
+impl Copy {
+    /// Room for every region.
+    fn new(tiling: &Tiling) -> Self {
+        let most = (tiling.side + 2 * tiling.margin).pow(2).min(tiling.width * tiling.height);
+        Self { cpe: vec![1.0; 3 * most], indices: vec![1; most] }
+    }
 }
 
 impl Job<'_> {
@@ -203,6 +212,29 @@ impl Job<'_> {
     }
 }
 
+/// `dbs_work` on a copy. Reads nothing of the job but what is fixed.
+fn refine_copy(record: &[u64; RECORD_LEN], tile: usize, pixels: usize, fixed: &Fixed, copy: &mut Copy) -> Worked {
+    assert!(3 * pixels <= copy.cpe.len() && pixels <= copy.indices.len());
+    // Sound: as in take.
+    unsafe {
+        dbs_work(
+            record.as_ptr(),
+            RECORD_LEN,
+            tile as u64,
+            fixed.pinned.as_ptr(),
+            fixed.pinned.len(),
+            fixed.cpp.as_ptr(),
+            fixed.cpp.len(),
+            copy.cpe.as_mut_ptr(),
+            3 * pixels,
+            copy.indices.as_mut_ptr(),
+            pixels,
+            fixed.inks.as_ptr(),
+            fixed.inks.len(),
+        )
+    }
+}
+
 /// Takes tiles until the job is finished.
 fn work(job: &Mutex<Job>, closed: &Condvar, fixed: &Fixed, copy: &mut Copy) {
     let mut guard = job.lock().unwrap();
@@ -212,24 +244,7 @@ fn work(job: &Mutex<Job>, closed: &Condvar, fixed: &Fixed, copy: &mut Copy) {
             guard.take(tile, pixels, copy);
             let record = guard.record;
             drop(guard);
-            // Sound: as in take; nothing of the job but what is fixed.
-            let worked = unsafe {
-                dbs_work(
-                    record.as_ptr(),
-                    RECORD_LEN,
-                    tile as u64,
-                    fixed.pinned.as_ptr(),
-                    fixed.pinned.len(),
-                    fixed.cpp.as_ptr(),
-                    fixed.cpp.len(),
-                    copy.cpe.as_mut_ptr(),
-                    3 * pixels,
-                    copy.indices.as_mut_ptr(),
-                    pixels,
-                    fixed.inks.as_ptr(),
-                    fixed.inks.len(),
-                )
-            };
+            let worked = refine_copy(&record, tile, pixels, fixed, copy);
             assert_eq!((worked.number, worked.place), (0, 0), "dbs_work refused");
             guard = job.lock().unwrap();
             guard.put_back(tile, pixels, copy, worked.accepted, worked.delta);
@@ -242,6 +257,15 @@ fn work(job: &Mutex<Job>, closed: &Condvar, fixed: &Fixed, copy: &mut Copy) {
     }
 }
 
+/// An open job on the buffers of `result`, whose indices are the start, and what is fixed; with the time of open.
+fn opened<'a>(image: &'a Image, max_passes: usize, result: &'a mut Outcome, opens: &mut Times) -> (Job<'a>, Fixed<'a>) {
+    let (record, tile_states, deltas) = opens.add(|| open(image, max_passes, result));
+    let tiling = Tiling::new(image, record[LUMINANCE_RADIUS].max(record[CHROMINANCE_RADIUS]) as usize);
+    let Outcome { indices, cpe, cpp, inks, accepted_per_pass, .. } = result;
+    let job = Job { record, indices, cpe, accepted_per_pass, tile_states, deltas, next: 0, out: 0 };
+    (job, Fixed { tiling, pinned: &image.pinned, cpp, inks })
+}
+
 /// A job on the buffers of `result`, whose indices are the start, with the times of open and of everything after it. The
 /// workers' copies are allocated between the two.
 pub fn refine(
@@ -252,23 +276,9 @@ pub fn refine(
     opens: &mut Times,
     works: &mut Times,
 ) {
-    let (record, tile_states, deltas) = opens.add(|| open(image, max_passes, result));
-    let tiling = Tiling::new(image, record[LUMINANCE_RADIUS].max(record[CHROMINANCE_RADIUS]) as usize);
-    let most = (tiling.side + 2 * tiling.margin).pow(2).min(image.indices.len());
-    let mut copies: Vec<Copy> =
-        (0..threads).map(|_| Copy { cpe: vec![1.0; 3 * most], indices: vec![1; most] }).collect();
-    let fixed = Fixed { tiling, pinned: &image.pinned, cpp: &result.cpp, inks: &result.inks };
-    let job = Mutex::new(Job {
-        record,
-        indices: &mut result.indices,
-        cpe: &mut result.cpe,
-        accepted_per_pass: &mut result.accepted_per_pass,
-        tile_states,
-        deltas,
-        next: 0,
-        out: 0,
-    });
-    let closed = Condvar::new();
+    let (job, fixed) = opened(image, max_passes, result, opens);
+    let mut copies: Vec<Copy> = (0..threads).map(|_| Copy::new(&fixed.tiling)).collect();
+    let (job, closed) = (Mutex::new(job), Condvar::new());
     works.add(|| {
         std::thread::scope(|scope| {
             for copy in &mut copies {
@@ -280,4 +290,41 @@ pub fn refine(
     result.passes = record[PASSES_DONE];
     result.initial_error = f64::from_bits(record[INITIAL_ERROR]);
     result.final_error = f64::from_bits(record[FINAL_ERROR]);
+}
+
+/// The first tile of an open job, to be worked on again and again as it was taken.
+pub struct FirstTile<'a> {
+    record: [u64; RECORD_LEN],
+    pixels: usize,
+    fixed: Fixed<'a>,
+    taken: Copy,
+    copy: Copy,
+    /// Number and place that `dbs_work` is to answer.
+    answer: (u64, u64),
+}
+
+impl<'a> FirstTile<'a> {
+    /// Of a job on the buffers of `result`, whose indices are the start.
+    pub fn new(image: &'a Image, result: &'a mut Outcome) -> Self {
+        let (mut job, fixed) = opened(image, 1, result, &mut Times::default());
+        let (pixels, mut taken) = (fixed.tiling.region_pixels(0), Copy::new(&fixed.tiling));
+        job.take(0, pixels, &mut taken);
+        Self { record: job.record, pixels, fixed, copy: taken.clone(), taken, answer: (0, 0) }
+    }
+
+    /// With a kernel store that is a value short: `dbs_work` refuses it once the mask is tested, and refines nothing.
+    pub fn refused(mut self) -> Self {
+        self.fixed.cpp = &self.fixed.cpp[1..];
+        self.answer = (11, 2);
+        self
+    }
+
+    /// The time of `dbs_work` with this mask. The copy is made as it was taken before that.
+    pub fn work(&mut self, pinned: &'a [u8], times: &mut Times) {
+        self.fixed.pinned = pinned;
+        self.copy.cpe.copy_from_slice(&self.taken.cpe);
+        self.copy.indices.copy_from_slice(&self.taken.indices);
+        let worked = times.add(|| refine_copy(&self.record, 0, self.pixels, &self.fixed, &mut self.copy));
+        assert_eq!((worked.number, worked.place), self.answer, "what dbs_work answered");
+    }
 }

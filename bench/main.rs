@@ -6,6 +6,7 @@ mod job;
 mod library;
 #[path = "../compare/light_table.rs"]
 mod light_table;
+mod mask;
 #[allow(dead_code)]
 #[path = "../compare/original.rs"]
 mod original;
@@ -25,14 +26,14 @@ const MAX_PASSES: usize = 10;
 /// As many as the library allows.
 const MOST_PASSES: usize = 1000;
 
-/// The input of the tables of parts, sizes, passes and a settled picture.
+/// The input of the tables of parts, sizes, passes, a settled picture and a mask.
 const PICTURE: Input = Input { start: Start::Diffused, width: 800, height: 480, inks: 7, ppi: 127.0, caption: false, vivid: false };
 
 fn main() -> ExitCode {
     let words: Vec<String> = std::env::args().skip(1).collect();
     let words: Vec<&str> = words.iter().map(String::as_str).collect();
     let (table, rest) = match words.as_slice() {
-        [table @ ("--inputs" | "--sizes" | "--passes" | "--settled"), rest @ ..] => (*table, rest),
+        [table @ ("--inputs" | "--sizes" | "--passes" | "--settled" | "--mask"), rest @ ..] => (*table, rest),
         rest => ("--parts", rest),
     };
     let runs = match rest {
@@ -41,14 +42,14 @@ fn main() -> ExitCode {
         _ => None,
     };
     let Some(runs) = runs else {
-        eprintln!("usage: bench/run [--inputs | --sizes | --passes | --settled] [--runs N]");
+        eprintln!("usage: bench/run [--inputs | --sizes | --passes | --settled | --mask] [--runs N]");
         return ExitCode::from(2);
     };
     println!("{}", machine());
-    if table == "--settled" {
-        print_converged(runs);
-    } else {
-        print_beside_copy(table, runs);
+    match table {
+        "--settled" => print_converged(runs),
+        "--mask" => mask::print(runs),
+        _ => print_beside_copy(table, runs),
     }
     println!("{}", machine());
     ExitCode::SUCCESS
@@ -111,7 +112,10 @@ fn print_parts(ppi: f64, runs: usize) {
     let image = image(Input { ppi, ..PICTURE });
     let mut lent = Outcome::new(&image, MAX_PASSES);
     let (mut ours, mut rusts, mut fresh) = (Parts::default(), Parts::default(), Times::default());
-    let mut jobs = [1, 2].map(|threads| (threads, Times::default(), Times::default()));
+    // The copy runs without a mask: it is the same refinement.
+    let masked = image.with_free_mask();
+    let mut jobs = [(1, &image), (1, &masked), (2, &image), (2, &masked)]
+        .map(|(threads, image)| (threads, image, Times::default(), Times::default()));
     let mut passes = 0;
     for _ in 0..runs {
         let expected = run(&image, &mut lent, &mut ours, &mut rusts);
@@ -122,9 +126,9 @@ fn print_parts(ppi: f64, runs: usize) {
             outcome
         });
         report(found.difference(&expected));
-        for (threads, opens, works) in &mut jobs {
+        for (threads, image, opens, works) in &mut jobs {
             lent.indices.copy_from_slice(&image.indices);
-            job::refine(&image, MAX_PASSES, *threads, &mut lent, opens, works);
+            job::refine(image, MAX_PASSES, *threads, &mut lent, opens, works);
             report(lent.difference(&expected));
         }
     }
@@ -144,13 +148,16 @@ fn print_parts(ppi: f64, runs: usize) {
     row("passes (whole less build-up)", &ours.whole.less(&ours.build_up), &rust_passes);
     row("whole refine", &ours.whole, &rusts.whole);
     row("whole refine, buffers allocated within", &fresh, &rusts.whole);
-    row("job: open", &jobs[0].1, &rusts.build_up);
-    for (threads, opens, works) in &jobs {
-        row(&format!("job, threads: {threads}; passes"), works, &rust_passes);
-        row(&format!("job, threads: {threads}; whole"), &opens.plus(works), &rusts.whole);
+    let [(_, _, opens, unmasked), (_, _, _, masked), ..] = &jobs;
+    row("job: open", opens, &rusts.build_up);
+    for (threads, image, opens, works) in &jobs {
+        let mask = if image.pinned.is_empty() { "" } else { ", mask" };
+        row(&format!("job, threads: {threads}{mask}; passes"), works, &rust_passes);
+        row(&format!("job, threads: {threads}{mask}; whole"), &opens.plus(works), &rusts.whole);
     }
     row("perceived_error", &ours.measure, &rusts.measure);
-    println!();
+    let [median, least] = masked.ratios(unmasked);
+    println!("\nJob, threads: 1; passes, processor time, mask / no mask: median {median:.3}, least {least:.3}.\n");
 }
 
 fn print_sizes(runs: usize) {
@@ -246,11 +253,8 @@ fn print_inputs(runs: usize) {
     for (name, start) in [("error-diffused", Start::Diffused), ("random", Start::Random)] {
         let plain = Input { start, ..PICTURE };
         if let (Some(masked), Some(plain)) = (of(Input { caption: true, ..plain }), of(plain)) {
-            println!(
-                "Library, caption pinned / no pins, {name}: median {:.2}, least {:.2}.",
-                masked.median().processor / plain.median().processor,
-                masked.least().processor / plain.least().processor,
-            );
+            let [median, least] = masked.ratios(&plain);
+            println!("Library, caption pinned / no pins, {name}: median {median:.2}, least {least:.2}.");
         }
     }
     println!();

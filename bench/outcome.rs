@@ -33,16 +33,16 @@ impl Outcome {
 
     /// The first part that differs, floats by their bits.
     pub fn difference(&self, other: &Self) -> Option<&'static str> {
-        let bits = |floats: &[f64]| floats.iter().map(|f| f.to_bits()).collect::<Vec<_>>();
-        let errors = |o: &Self| bits(&[o.initial_error, o.final_error]);
+        let same = |a: &[f64], b: &[f64]| a.iter().map(|f| f.to_bits()).eq(b.iter().map(|f| f.to_bits()));
+        let errors = |o: &Self| [o.initial_error, o.final_error];
         let parts = [
             ("indices", self.indices == other.indices),
             ("passes", self.passes == other.passes),
             ("accepted_per_pass", self.accepted_per_pass == other.accepted_per_pass),
-            ("errors", errors(self) == errors(other)),
-            ("cpe", bits(&self.cpe) == bits(&other.cpe)),
-            ("cpp", bits(&self.cpp) == bits(&other.cpp)),
-            ("inks", bits(&self.inks) == bits(&other.inks)),
+            ("errors", same(&errors(self), &errors(other))),
+            ("cpe", same(&self.cpe, &other.cpe)),
+            ("cpp", same(&self.cpp, &other.cpp)),
+            ("inks", same(&self.inks, &other.inks)),
         ];
         parts.into_iter().find(|(_, same)| !same).map(|(name, _)| name)
     }

@@ -44,6 +44,11 @@ impl Times {
         Time { clock: least(|time| time.clock), processor: least(|time| time.processor) }
     }
 
+    /// Of processor time: median to median, least to least.
+    pub fn ratios(&self, other: &Self) -> [f64; 2] {
+        [self.median().processor / other.median().processor, self.least().processor / other.least().processor]
+    }
+
     fn median_of(&self, part: impl Fn(&Time) -> f64) -> f64 {
         let mut times: Vec<f64> = self.0.iter().map(part).collect();
         times.sort_by(f64::total_cmp);
