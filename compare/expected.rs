@@ -1,4 +1,4 @@
-//! What document 01 says of an input, and the copy of the Rust where the input is accepted.
+//! What the documents say of an input, and the copy of the Rust where the input is accepted.
 
 use crate::call::{Buffers, Call, Found, Measured, Refined, CPP_CHROMA, CPP_LEN};
 use crate::original::{dbs_refine, eye_sigmas, perceived_error, DbsParams, DbsStats, FirstMove, SrgbPalette};
@@ -85,8 +85,9 @@ pub fn find(call: &Call) -> Found {
     answer
 }
 
-/// Number and place of the first row of document 01's table that holds, or 0, 0. Measuring is given
-/// no mask, no passes and no buffers, finding no passes and no counts.
+/// Number and place of the first row of document 01's table that holds, or 0, 0. Row 17, a mask byte that is neither
+/// 0 nor 1, is document 02's and comes after 4. Measuring is given no mask, no passes and no buffers, finding no
+/// passes and no counts.
 pub fn refusal(call: &Call, asked: Asked) -> (u64, u64) {
     if call.width < 1 || 4096 < call.width || 4096 < call.height {
         return (1, 0);
@@ -94,6 +95,7 @@ pub fn refusal(call: &Call, asked: Asked) -> (u64, u64) {
     let n = call.width as usize * call.height as usize;
     let inks = call.palette.len() / 3;
     let lent = &call.lent;
+    let wrong = call.pinned.iter().position(|&byte| byte > 1);
     let unnamed = lent.indices.iter().position(|&index| usize::from(index) >= inks);
     let usable = |x: f64| x.is_finite() && x > 0.0;
     let [luminance, chrominance] = eye_sigmas(&call.params());
@@ -102,6 +104,7 @@ pub fn refusal(call: &Call, asked: Asked) -> (u64, u64) {
         (2, 0, call.pixels.len() != 3 * n),
         (3, 0, lent.indices.len() != n),
         (4, 0, !measuring && call.pinned.len() != 0 && call.pinned.len() != n),
+        (17, wrong.unwrap_or(0) as u64, !measuring && wrong.is_some()),
         (5, 0, call.palette.len() % 3 != 0 || inks < 1 || 256 < inks),
         (6, unnamed.unwrap_or(0) as u64, unnamed.is_some()),
         (7, 0, !usable(call.ppi)),

@@ -6,7 +6,7 @@ use crate::tiles::{area, Tiling};
 
 /// Changes one thing that a call is given beside its record.
 pub fn change(r: &mut Random, tiling: &Tiling, job: &mut Job, copy: &mut TileCopy) {
-    match r.below(12) {
+    match r.below(13) {
         0..=2 => change_length(r, job, copy),
         3 => copy.tile = other_tile(r, tiling, copy.tile),
         4 => copy.accepted = other_count(r, tiling, job, copy.tile),
@@ -16,6 +16,7 @@ pub fn change(r: &mut Random, tiling: &Tiling, job: &mut Job, copy: &mut TileCop
         8 => set_one(r, &mut job.lent.cpe, wild),
         9 => set_one(r, &mut job.deltas, wild),
         10 => set_one(r, &mut job.lent.inks, wild),
+        11 => set_one(r, &mut job.pinned, |r| r.pick(&[0, 1, 2, 127, 128, 254, 255])),
         _ => copy.delta = wild(r),
     }
 }

@@ -113,6 +113,7 @@ pub fn refusal(kind: Kind, job: &Job, copy: &TileCopy) -> (u64, u64) {
     let [pixels, copied] = if has { [tiling.tile(tile), tiling.region(tile)].map(area) } else { [0, 0] };
     let too_many = copy.accepted > pixels as u64 || copy.accepted > record.pixels - record.accepted;
     let state = |tile: u64| job.tile_states.get(tile as usize).copied().unwrap_or(0);
+    let wrong = job.pinned.iter().position(|&byte| byte > 1);
     let unnamed = copy.indices.iter().position(|&index| u64::from(index) >= record.inks);
     let missing = tiling.of_phase(record.phase).find(|&tile| state(tile) < 2);
     let Buffers { indices, cpe, cpp, accepted_per_pass, inks } = &job.lent;
@@ -123,6 +124,7 @@ pub fn refusal(kind: Kind, job: &Job, copy: &TileCopy) -> (u64, u64) {
         (13, 0, of(&[Work]) && !has),
         (3, 0, of(&[Take, PutBack]) && indices.len() != n),
         (4, 0, of(&[Work]) && job.pinned.len() != 0 && job.pinned.len() != n),
+        (17, wrong.unwrap_or(0) as u64, of(&[Work]) && wrong.is_some()),
         (11, 1, of(&[Take, PutBack]) && cpe.len() != 3 * n),
         (11, 2, of(&[Work]) && cpp.len() != CPP_LEN),
         (11, 3, of(&[Close]) && accepted_per_pass.len() as u64 != record.allowed),

@@ -107,7 +107,7 @@ fn arbitrary(r: &mut Random, kind: Kind) -> (Tiling, Job, TileCopy) {
     let on_image = matches!(kind, Kind::Take | Kind::PutBack);
     let length = |given: bool, len: u64| if given { len as usize } else { 0 };
     let mut bytes = |len: usize| (0..len).map(|_| r.byte()).collect::<Vec<_>>();
-    let pinned = bytes(length(kind == Kind::Work && n < 1 << 20, n));
+    let pinned = bytes(length(kind == Kind::Work && n < 1 << 20, n)).into_iter().map(|byte| byte % 2).collect();
     let indices = bytes(length(on_image, n));
     let copy_indices = bytes(copied).into_iter().map(|byte| (u64::from(byte) % inks) as u8).collect();
     let job = Job {

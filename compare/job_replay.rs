@@ -4,10 +4,10 @@ use crate::call::{Call, CPP_LEN};
 use crate::job::*;
 use crate::job_lines::*;
 use crate::original::DbsParams;
-use crate::plates::{program_plate, reach, smallest};
+use crate::plates::{black_pixels, program_plate, reach, smallest, BLACK_WHITE};
 use crate::random::Random;
 use crate::replay::{allowed, lively};
-use crate::tiles::{area, Tiling};
+use crate::tiles::{area, radii, Tiling};
 
 /// The lists with their answers.
 pub fn text(side: &Side) -> String {
@@ -50,10 +50,27 @@ fn lists() -> Vec<(&'static str, Vec<Line>)> {
         ("Each row of the table for calls on two tiles.", rows(two)),
         ("Records that no call returned.", records()),
         ("Refused opens.", opens()),
+        ("Work with wrong mask bytes: behind the mask of an open, and in masks of refused opens.", wrong_masks()),
     ]
 }
 
 const KINDS: [Kind; 4] = [Kind::Take, Kind::Work, Kind::PutBack, Kind::Close];
+
+/// A change of the tile or of the lengths of a work.
+type WorkChange = fn(&mut u64, &mut Lengths);
+
+/// No change; changes that count before the bytes of a mask; and changes that count after them.
+const WORKS: [WorkChange; 9] = [
+    |_, _| (),
+    |_, lengths| lengths[RECORD] = 11,
+    |tile, _| *tile = 3,
+    |_, lengths| lengths[PINNED] -= 1,
+    |_, lengths| lengths[PINNED] += 1,
+    |_, lengths| lengths[CPP] -= 1,
+    |_, lengths| lengths[INKS] -= 1,
+    |_, lengths| lengths[COPY_CPE] -= 1,
+    |_, lengths| lengths[COPY_INDICES] -= 1,
+];
 
 /// A list in the making.
 struct Script {
@@ -177,6 +194,31 @@ impl Script {
         let made: Vec<usize> = (0..self.out.len()).filter(|&i| self.out[i].made.is_some()).collect();
         let Out { tile, from, made } = self.out.swap_remove(self.r.pick(&made));
         self.push(self.line(Kind::PutBack, tile, from, made.expect("made")));
+    }
+
+    /// A line that makes the image of the record so wide, of one row; its mask is so long too.
+    fn set_width(&mut self, width: u64) {
+        self.push(Line::Word { place: 0, value: width });
+        self.call.pinned.resize(width as usize, 255);
+        self.tiling = Tiling::new(width, 1, radii(&self.call.params()));
+    }
+
+    /// Works on tile 0 with each of these changes.
+    fn works(&mut self, changes: &[WorkChange]) {
+        for change in changes {
+            let (mut tile, mut lengths) = (0, self.lengths(0));
+            change(&mut tile, &mut lengths);
+            self.push(Line::Call { kind: Kind::Work, tile, from: 0, accepted: 0, delta: 0, lengths });
+        }
+    }
+
+    /// Works with a mask that is refused, alone, with other changes and with a record that is refused.
+    fn refused_works(&mut self) {
+        self.works(&WORKS);
+        let (place, value) = (PHASE, self.record(PHASE));
+        self.push(Line::Word { place, value: 4 });
+        self.works(&WORKS[..1]);
+        self.push(Line::Word { place, value });
     }
 
     /// A call that document 01 refuses, of those on one tile with one change or none.
@@ -309,18 +351,18 @@ fn records() -> Vec<Line> {
     script.lines
 }
 
-/// Numbers and places of opens, and several at once: the lowest number counts, but a run of another length
-/// comes first.
+/// Numbers and places of opens, and several at once: the one tested first counts, and a run of another length comes
+/// before all.
 fn opens() -> Vec<Line> {
-    let changes: [fn(&mut Call, &mut Lengths); 22] = [
+    let changes: [fn(&mut Call, &mut Lengths); 31] = [
         |_, l| l[RECORD] = 0,
         |_, l| l[RECORD] = 11,
         |c, l| (c.width, l[RECORD]) = (0, 13),
         |c, _| c.width = 0,
         |c, _| c.height = 4097,
         |c, _| c.pixels.push(0),
-        |c, l| (c.lent.indices.truncate(1), l[INDICES] = 1).1,
-        |c, l| (c.pinned.push(0), l[PINNED] = 1).1,
+        |c, _| c.lent.indices.truncate(1),
+        |c, _| c.pinned.push(0),
         |c, _| c.palette.truncate(5),
         |c, _| c.lent.indices[1] = 2,
         |c, _| c.ppi = f64::NAN,
@@ -335,12 +377,70 @@ fn opens() -> Vec<Line> {
         |_, l| (l[STATES], l[DELTAS]) = (2, 2),
         |_, l| (l[DELTAS], l[INKS]) = (2, 5),
         |_, l| l[INKS] = 9,
+        |c, _| c.pinned = vec![0, 255],
+        |c, l| (c.pinned, l[RECORD]) = (vec![2, 2], 11),
+        |c, _| (c.pinned = vec![2, 2], c.pixels.push(0)).1,
+        |c, _| (c.pinned = vec![2, 2], c.lent.indices.truncate(1)).1,
+        |c, _| c.pinned = vec![2],
+        |c, _| (c.pinned = vec![128, 2], c.palette.truncate(5)).1,
+        |c, _| (c.pinned, c.lent.indices[0], c.ppi) = (vec![1, 2], 9, 0.0),
+        |c, l| (c.pinned, c.max_passes, l[CPE]) = (vec![1, 2], 1001, 5),
+        |c, l| (c.pinned, l[STATES], l[DELTAS]) = (vec![1, 2], 0, 0),
     ];
     let script = Script::new(program_plate(), 10);
     let line = |change: &fn(&mut Call, &mut Lengths)| {
         let (mut call, mut lengths) = (script.call.clone(), script.lengths(0));
         change(&mut call, &mut lengths);
+        (lengths[PINNED], lengths[INDICES]) = (call.pinned.len(), call.lent.indices.len());
         Line::Open { call, lengths }
     };
     changes.iter().map(line).collect()
+}
+
+fn wrong_masks() -> Vec<Line> {
+    let eye = DbsParams { max_passes: 2, ..reach(1, 0.5) };
+    let mut first = left(&[255, 0, 1, 0, 1], eye);
+    first.refused_works();
+    let mut far = left(&[[0; 128].as_slice(), &[2]].concat(), eye);
+    far.works(&WORKS[..1]);
+    [behind(eye), narrower(eye), first.lines, far.lines].concat()
+}
+
+/// Behind the mask of an accepted open stand bytes 255. Where the record says that the image is wider by a pixel, the
+/// mask has one of them, far from tile 0. With the record as it was, and with no mask, the same work is accepted.
+fn behind(eye: DbsParams) -> Vec<Line> {
+    let mut script = Script::new(black_pixels(128, 1, &[[3, 0], [70, 0]], eye), 11);
+    script.push(script.line(Kind::Take, 0, 0, (0, 0)));
+    script.set_width(129);
+    script.refused_works();
+    let (place, old) = (66, script.room.0[COPY_INDICES][66] as u8);
+    script.push(Line::Index { place, byte: 255 });
+    script.works(&WORKS[..1]);
+    script.push(Line::Index { place, byte: old });
+    script.set_width(128);
+    script.works(&[|_, _| (), |_, lengths| lengths[PINNED] = 0]);
+    script.lines
+}
+
+/// A byte in the middle with another behind it; in a narrower image the first of them is the last byte; in a still
+/// narrower one there is none.
+fn narrower(eye: DbsParams) -> Vec<Line> {
+    let mut script = left(&[0, 1, 254, 1, 2], eye);
+    (0..5).for_each(|place| _ = script.push(Line::Index { place, byte: 0 }));
+    script.works(&WORKS[..1]);
+    for width in [3, 2] {
+        script.set_width(width);
+        script.works(&WORKS[..1]);
+    }
+    script.lines
+}
+
+/// An open that is refused for its mask, which stays in the buffer, and lines that write a record.
+fn left(pinned: &[u8], eye: DbsParams) -> Script {
+    let n = pinned.len();
+    let call = crate::plates::call(n as u64, 1, &vec![255; 3 * n], &BLACK_WHITE, &vec![0; n], pinned, eye);
+    let mut script = Script::new(call, 12);
+    let [luminance, chrominance] = radii(&eye);
+    script.write(&[n as u64, 1, 2, luminance, chrominance, u64::from(eye.max_passes), 0, 0, 0, 0, 0, 0]);
+    script
 }

@@ -1,4 +1,4 @@
-//! Comparisons of Fidrosha with the copy of the Rust, with document 01's table of refusals and with
+//! Comparisons of Fidrosha with the copy of the Rust, with the documents' table of refusals and with
 //! the standard's formula. Built and run by compare/run.
 
 mod call;
@@ -15,6 +15,7 @@ mod jobs;
 mod library;
 mod light;
 mod light_table;
+mod masks;
 mod original;
 mod plate;
 mod plates;
@@ -81,6 +82,7 @@ fn compare(seed: u64, scale: f64) -> ExitCode {
         refine::measure(&groups),
         refine::find(&groups),
         refusals::compare(seed, scale),
+        masks::compare(),
         replay::compare(),
     ];
     sections.extend(jobs::compare(seed, scale));

@@ -77,7 +77,7 @@ fn up_to_2x2() -> Vec<Call> {
             for start in 0..1 << n {
                 let indices: Vec<u8> = (0..n).map(|i| start >> i & 1).collect();
                 for (palette, params) in viewed {
-                    let masks = (0..1 << n).map(|mask: u8| (0..n).map(|i| (mask >> i & 1) << (2 * i)).collect());
+                    let masks = (0..1 << n).map(|mask: u8| (0..n).map(|i| mask >> i & 1).collect());
                     for pinned in std::iter::once(vec![]).chain(masks) {
                         plates.push(call(width, height, &pixels, &palette, &indices, &pinned, params));
                     }
@@ -328,7 +328,8 @@ pub fn plate(r: &mut Random, width: u64, height: u64, inks: u64, params: DbsPara
         .collect();
     let mask =
         |r: &mut Random, unpinned: u64| (0..n).map(|_| if r.below(8) < unpinned { 0 } else { r.byte() }).collect();
-    let pinned: Vec<u8> = match r.below(8) {
+    // Drawn as any bytes; a pixel is pinned where its byte is not 0.
+    let mut pinned: Vec<u8> = match r.below(8) {
         0 => (0..n).map(|_| r.byte() | 1).collect(),
         1 => vec![0; n],
         2 => mask(r, 0),
@@ -336,6 +337,7 @@ pub fn plate(r: &mut Random, width: u64, height: u64, inks: u64, params: DbsPara
         4 | 5 => mask(r, 7),
         _ => vec![],
     };
+    pinned.iter_mut().for_each(|byte| *byte = (*byte).min(1));
     call(width, height, pixels.as_flattened(), &palette, &indices, &pinned, params)
 }
 

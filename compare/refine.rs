@@ -3,8 +3,9 @@
 use std::time::Instant;
 
 use crate::call::{first, Call, Found};
+use crate::expected::{self, Asked};
 use crate::plates::Group;
-use crate::{expected, library, replay, Section};
+use crate::{library, replay, Section};
 
 pub fn refine(groups: &[Group]) -> Section {
     let mut section = Section::new("plates refined");
@@ -59,9 +60,15 @@ fn compare(section: &mut Section, name: &str, plates: &[Call], difference: fn(&C
     for (i, plate) in plates.iter().enumerate() {
         let mut plate = plate.clone();
         plate.lend();
-        section.check(format_args!("{name}, {i}"), difference(&plate));
+        section.check(format_args!("{name}, {i}"), refused(&plate).or_else(|| difference(&plate)));
     }
     println!("{}: {} {name}, {:.1} s", section.name, plates.len(), start.elapsed().as_secs_f64());
+}
+
+/// No plate is to be refused: of a refusal both sides say the same, and nothing of the walk is compared.
+fn refused(plate: &Call) -> Option<String> {
+    let (number, place) = expected::refusal(plate, Asked::Refine);
+    (number > 0).then(|| format!("refused with {number}, {place}\n{}", replay::call_line(plate)))
 }
 
 pub fn refine_one(call: &Call) -> Option<String> {

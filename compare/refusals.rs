@@ -1,5 +1,5 @@
-//! Inputs on both sides of every limit of document 01's table, alone and several at once. Expected is
-//! the table's first row that holds, with every buffer as it was, or what the copy of the Rust answers.
+//! Inputs on both sides of every limit of the table of refusals, alone and several at once. Expected is the first of
+//! its rows that holds, with every buffer as it was, or what the copy of the Rust answers.
 
 use std::collections::BTreeMap;
 
@@ -18,6 +18,9 @@ pub struct Change {
     pub make: Box<dyn Fn(&mut Call)>,
 }
 
+/// The rows in the order in which they are tested.
+const ROWS: [u64; 12] = [1, 2, 3, 4, 17, 5, 6, 7, 8, 9, 10, 11];
+
 pub fn compare(seed: u64, scale: f64) -> Section {
     let mut section = Section::new("refusals and limits");
     let mut answers = BTreeMap::new();
@@ -31,7 +34,7 @@ pub fn compare(seed: u64, scale: f64) -> Section {
             section.check("find", find_one(&call));
         }
         // Measuring is given no mask, passes or buffers.
-        if changes.iter().any(|change| ![4, 10, 11].contains(&change.row)) {
+        if changes.iter().any(|change| ![4, 17, 10, 11].contains(&change.row)) {
             section.check("measure", measure_one(&call));
         }
     };
@@ -46,11 +49,12 @@ pub fn compare(seed: u64, scale: f64) -> Section {
         changes[..i].iter().for_each(|other| check(&plates[0], &[change, other]));
     }
     for _ in 0..(20_000.0 * scale) as usize {
-        let lowest = r.between(1, 11);
-        let several: Vec<_> = (0..r.between(3, 8)).map(|_| pick(&mut r, &changes, lowest)).collect();
+        let rows = &ROWS[r.below(12) as usize..];
+        let several: Vec<_> = (0..r.between(3, 8)).map(|_| pick(&mut r, &changes, rows)).collect();
         check(&plates[r.below(4) as usize], &several);
     }
     check(&largest(), &[]);
+    check(&largest(), &[&Change { row: 17, make: Box::new(|call| set_pin(call, 2, 2)) }]);
     let answers: Vec<_> = answers.iter().map(|(number, count)| format!("{number}: {count}")).collect();
     println!("answers of refine by number: {}", answers.join(", "));
     section
@@ -63,7 +67,7 @@ pub fn plates(r: &mut Random) -> Vec<Call> {
     let limits = [(4096, 1, 2), (4097, 1, 2), (1, 4096, 2), (1, 4097, 2), (4096, 0, 2), (4097, 0, 2)];
     let params = DbsParams { max_passes: 3, ..DbsParams::default() };
     let mut plates: Vec<_> = sizes.iter().chain(&limits).map(|&(w, h, inks)| plate(r, w, h, inks, params)).collect();
-    plates[0].pinned = vec![0, 9, 0, 0, 0, 0];
+    plates[0].pinned = vec![0, 1, 0, 0, 0, 0];
     plates.iter_mut().for_each(Call::lend);
     plates
 }
@@ -91,6 +95,7 @@ pub fn changes() -> Vec<Change> {
     ];
     const OTHER: [(u64, u64); 9] =
         [(6, 1), (1, 6), (2, 3), (4, 2), (3, 3), (4096, 4096), (4097, 4096), (4096, 4097), (0, u64::MAX)];
+    const PINS: [u8; 7] = [0, 1, 2, 127, 128, 254, 255];
     const FLOATS: [f64; 14] = [
         0.0,
         -0.0,
@@ -127,6 +132,12 @@ pub fn changes() -> Vec<Change> {
     add(each(3, &[0, 18, 262], |c, len| c.lent.indices.resize(len, 0)));
     add(each(4, &nearby, |c, by| extend(&mut c.pinned, by)));
     add(each(4, &[0, 1, 6, 18, 262], |c, len| c.pinned.resize(len, 1)));
+    add(each(4, &[1, 7, 18], |c, len| c.pinned.resize(len, 2)));
+    add(each(17, &PINS, |c, byte| set_pin(c, 0, byte)));
+    add(each(17, &PINS, |c, byte| set_pin(c, 1, byte)));
+    add(each(17, &PINS, |c, byte| set_pin(c, 2, byte)));
+    add(each(17, &[(0, 1), (0, 2), (1, 2)], |c, (a, b)| (set_pin(c, a, 3), set_pin(c, b, 255)).1));
+    add(each(17, &[0, 1, 2, 255], |c, byte| (set_pin(c, 0, byte), c.pinned.fill(byte)).1));
     add(each(5, &[0, 1, 2, 3, 4, 5, 7, 8, 9, 767, 768, 769, 770, 771, 774, 1536, 196_614], |c, len| {
         c.palette.resize(len, 90)
     }));
@@ -154,9 +165,9 @@ pub fn changes() -> Vec<Change> {
     changes
 }
 
-/// A change in a row from `lowest` on.
-fn pick<'a>(r: &mut Random, changes: &'a [Change], lowest: u64) -> &'a Change {
-    let row = r.between(lowest, 11);
+/// A change in one of these rows.
+fn pick<'a>(r: &mut Random, changes: &'a [Change], rows: &[u64]) -> &'a Change {
+    let row = r.pick(rows);
     let of_row: Vec<_> = changes.iter().filter(|change| change.row == row).collect();
     r.pick(&of_row)
 }
@@ -167,6 +178,17 @@ fn each<T: Copy + 'static>(row: u64, values: &[T], make: fn(&mut Call, T)) -> Ve
 
 fn extend<T: Clone + From<u8>>(cells: &mut Vec<T>, by: isize) {
     cells.resize(cells.len().saturating_add_signed(by), T::from(0));
+}
+
+/// Sets the mask's first byte, its middle one or its last, for 0, 1 or 2 halves of the way. Where there was no mask,
+/// the other bytes are 0.
+fn set_pin(call: &mut Call, halves: usize, byte: u8) {
+    if call.pinned.is_empty() {
+        call.pinned = vec![0; call.pixels.len() / 3];
+    }
+    if let Some(last) = call.pinned.len().checked_sub(1) {
+        call.pinned[last * halves / 2] = byte;
+    }
 }
 
 /// The index at a place becomes the number of inks less 1, where it still names one, plus `above`.

@@ -9,7 +9,7 @@ use crate::random::Random;
 use crate::{expected, job_lines, job_replay, library, Section};
 
 const HEADER: &str = "\
-# Calls of refine, measure and find, then of jobs, with their answers, by document 01's table of refusals and
+# Calls of refine, measure and find, then of jobs, with their answers, by the documents' table of refusals and
 # the copy of the Rust, made with
 #   compare/run --replay > compare/replay.txt
 # Four lines for a call; words are separated by one space, and none is empty.
@@ -166,7 +166,8 @@ fn groups() -> Vec<(&'static str, Vec<Call>)> {
     let plates = [
         ("The input of program plate, from 1 0 and from 0 1.", program_plates()),
         ("No row; one pixel; one ink.", no_row_one_pixel()),
-        ("Pins: none, the first, the second, both; any byte but 0; a pinned pixel that would gain.", pins()),
+        ("Pins: none, the first, the second, both; a pinned pixel that would gain.", pins()),
+        ("Mask bytes that are neither 0 nor 1: first, in the middle, last, and two of them.", wrong_masks()),
         ("First moves in the order of a pass: in phase 1, 2, 3, then in two tiles or more.", order_of_pass()),
         ("Equal inks.", equal_inks()),
         ("A toggle and a swap of equal cost.", vec![equal_kinds()]),
@@ -216,10 +217,22 @@ fn no_row_one_pixel() -> Vec<Call> {
 }
 
 fn pins() -> Vec<Call> {
-    let masks: [&[u8]; 4] = [&[0, 0], &[128, 0], &[0, 3], &[255, 16]];
-    let plate = |pinned| call(2, 1, &[20, 20, 90, 250, 240, 190], &BLACK_WHITE, &[1, 0], pinned, allowed(10));
     let gains = call(2, 1, &[255; 6], &BLACK_WHITE, &[0, 0], &[1, 0], allowed(10));
-    masks.map(plate).into_iter().chain([gains]).collect()
+    [[0, 0], [1, 0], [0, 1], [1, 1]].map(pinned_pair).into_iter().chain([gains]).collect()
+}
+
+/// Two pixels that swap where neither is pinned.
+fn pinned_pair(pinned: [u8; 2]) -> Call {
+    call(2, 1, &[20, 20, 90, 250, 240, 190], &BLACK_WHITE, &[1, 0], &pinned, allowed(10))
+}
+
+fn wrong_masks() -> Vec<Call> {
+    let pairs = [[128, 0], [0, 3], [255, 16]].map(pinned_pair);
+    let rows = [[2, 0, 1, 0, 1], [0, 1, 254, 1, 0], [1, 1, 1, 1, 255], [0, 127, 0, 0, 2]];
+    let rows = rows.map(|pinned| call(5, 1, &[255; 15], &BLACK_WHITE, &[0; 5], &pinned, allowed(10)));
+    let tiles = [[0; 128].as_slice(), &[2]].concat();
+    let tiles = call(129, 1, &[255; 387], &BLACK_WHITE, &[0; 129], &tiles, allowed(10));
+    pairs.into_iter().chain(rows).chain([tiles]).collect()
 }
 
 fn order_of_pass() -> Vec<Call> {
@@ -319,12 +332,12 @@ fn random() -> Vec<Call> {
         .collect()
 }
 
-/// Each number and place, and several at once: the lowest number counts.
+/// Each number and place, and several at once: the one tested first counts.
 fn refusals(plate: &Call) -> Vec<Call> {
     let [_, at, above] = around(|e| 2.5 * eye_sigmas(e)[1], 16.0, 10);
     let [below, ..] = around(|e| eye_sigmas(e)[0], 0.05, 10);
     let look = |c: &mut Call, e: DbsParams| (c.ppi, c.viewing_distance_cm) = (e.ppi, e.viewing_distance_cm);
-    let changes: [&dyn Fn(&mut Call); 31] = [
+    let changes: [&dyn Fn(&mut Call); 41] = [
         &|c| c.width = 0,
         &|c| c.width = 4097,
         &|c| c.height = 4097,
@@ -356,6 +369,16 @@ fn refusals(plate: &Call) -> Vec<Call> {
         &|c| (look(c, below), c.lent.cpe.truncate(5), c.lent.inks.truncate(0)).0,
         &|c| (look(c, above), c.lent.cpp.truncate(8449)).0,
         &|c| (c.lent.cpp.push((-1.0_f64).to_bits()), c.lent.inks.truncate(1)).0,
+        &|c| (c.pinned, c.width) = (vec![2, 0], 4097),
+        &|c| (c.pinned = vec![2, 0], c.pixels.push(0)).1,
+        &|c| (c.pinned = vec![2, 0], c.lent.indices.truncate(1)).1,
+        &|c| c.pinned = vec![2, 0, 0],
+        &|c| (c.height, c.pixels, c.lent.indices, c.pinned) = (0, vec![], vec![], vec![2]),
+        &|c| (c.pinned = vec![0, 2], c.palette.truncate(5)).1,
+        &|c| (c.pinned, c.lent.indices[0]) = (vec![0, 2], 255),
+        &|c| (c.pinned, c.ppi, c.viewing_distance_cm) = (vec![0, 2], 0.0, 0.0),
+        &|c| (c.pinned, c.max_passes) = (vec![0, 2], 1001),
+        &|c| (c.pinned = vec![0, 2], c.lent.cpe.truncate(5), c.lent.inks.truncate(0)).0,
     ];
     changes
         .map(|change| {

@@ -1,6 +1,6 @@
 /* Faults for host/test, linked with --wrap: of the calls of calloc, pthread_create, dbs_work or dbs_find_move the one
    fails, counted from 1, that FAIL_CALLOC, FAIL_PTHREAD_CREATE, FAIL_DBS_WORK or FAIL_DBS_FIND_MOVE in the environment
-   names. */
+   names. FAIL_NUMBER and FAIL_PLACE name what dbs_work then answers. */
 #include <errno.h>
 #include <pthread.h>
 #include <stdatomic.h>
@@ -9,11 +9,17 @@
 
 #include "dbs.h"
 
-static bool fails(const char *variable, atomic_int *calls)
+/* The number that the variable names, 0 where there is none. */
+static uint64_t named(const char *variable)
 {
     const char *number = getenv(variable);
+    return number != NULL ? strtoull(number, NULL, 10) : 0;
+}
+
+static bool fails(const char *variable, atomic_int *calls)
+{
     int call = atomic_fetch_add(calls, 1) + 1;
-    return number != NULL && atoi(number) == call;
+    return named(variable) == (uint64_t)call;
 }
 
 void *__real_calloc(size_t count, size_t size);
@@ -46,7 +52,7 @@ dbs_worked __wrap_dbs_work(WORK_ARGUMENTS)
 {
     static atomic_int calls;
     if (fails("FAIL_DBS_WORK", &calls))
-        return (dbs_worked){ .number = 13 };
+        return (dbs_worked){ .number = named("FAIL_NUMBER"), .place = named("FAIL_PLACE") };
     return __real_dbs_work(record, record_len, tile, pinned, pinned_len, cpp, cpp_len, copy_cpe, copy_cpe_len,
                            copy_indices, copy_indices_len, inks, inks_len);
 }

@@ -42,6 +42,13 @@ static bool load_picture(FILE *file, const char *name, struct input *input)
         && read_netpbm_samples(file, name, 3 * (size_t)(input->width * input->height), &input->pixels);
 }
 
+/* 255 pins and 0 does not. Any other grey is a soft edge: it stays above 1, grey 1 as 2, so that the library refuses it
+   at its pixel and it is not pinned unseen. */
+static uint8_t pin_of_grey(uint8_t grey)
+{
+    return grey == 255 ? 1 : grey == 1 ? 2 : grey;
+}
+
 static bool load_pinned(FILE *file, const char *name, struct input *input)
 {
     uint64_t width, height;
@@ -52,7 +59,11 @@ static bool load_pinned(FILE *file, const char *name, struct input *input)
                  width, height, input->width, input->height);
         return false;
     }
-    return read_netpbm_samples(file, name, (size_t)(width * height), &input->pinned);
+    if (!read_netpbm_samples(file, name, (size_t)(width * height), &input->pinned))
+        return false;
+    for (size_t i = 0; i < input->pinned.len; i++)
+        input->pinned.at[i] = pin_of_grey(input->pinned.at[i]);
+    return true;
 }
 
 static bool load_from(const char *name, bool (*load)(FILE *, const char *, struct input *), struct input *input)

@@ -132,7 +132,8 @@ static bool refine_tile(struct worker *worker, uint64_t tile)
 
     pthread_mutex_lock(&job->lock);
     job->out--;
-    if (!accepted("dbs_work", worked.number, worked.place, 0))
+    /* 6 has its place in the copy, 17 in the mask of the whole image. */
+    if (!accepted("dbs_work", worked.number, worked.place, worked.number == 17 ? input->width : 0))
         return false;
     status = dbs_put_back(job->record, DBS_RECORD_LEN, tile, result->indices, input->indices.len,
                           result->cpe, input->pixels.len, job->tile_states, tiles, job->deltas, tiles,

@@ -22,6 +22,7 @@ static const char *const MEANINGS[] = {
     [14] = "the tile to take is not waiting, or the tile to put back is not out",
     [15] = "a tile of this phase is not back",
     [16] = "the job is finished",
+    [17] = "a byte of the pin mask is neither 0 nor 1, in a PGM file neither 0 nor 255",
 };
 
 static const char *const BUFFERS[] = {
@@ -35,7 +36,7 @@ enum { MEANINGS_LEN = sizeof MEANINGS / sizeof MEANINGS[0], BUFFERS_LEN = sizeof
 static void describe_place(uint64_t number, uint64_t place, uint64_t width, char *text, size_t size)
 {
     text[0] = '\0';
-    if (number == 6 && width > 0)
+    if ((number == 6 || number == 17) && width > 0)
         snprintf(text, size, ": pixel %" PRIu64 ", in column %" PRIu64 " of row %" PRIu64 " from 0", place,
                  place % width, place / width);
     else if (number == 9)

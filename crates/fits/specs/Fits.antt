@@ -1,4 +1,4 @@
--- The limits of document 01 as tests of single values: a size, a mask, a palette, and the first index that names no ink. The lists of tests that cite them
+-- The limits of document 01 as tests of single values: a size, a mask, a palette, the first index that names no ink and the first byte of a mask above 1. The lists of tests that cite them
 -- are those of `input` and `job`.
 use Prim.Native.Nat.{ℕ, suc, _/_, _%_}
 use mathlib.Core.Bool.{Bool, cond, _&&_, _||_}
@@ -29,3 +29,7 @@ firstNotBelow n (k ∷ ks) = let later = firstNotBelow n ks in cond (ltb k n) (s
 -- the place of the first index that names none of so many inks, or the length
 abbrev pub firstUnnamed : ℕ → List ℕ → ℕ
 firstUnnamed inks indices = firstNotBelow inks indices
+
+-- 'a mask byte is 0 or 1' (document 02, F-2): the place of the first byte above 1, or the length
+abbrev pub firstAboveOne : List ℕ → ℕ
+firstAboveOne pinned = firstNotBelow 2 pinned

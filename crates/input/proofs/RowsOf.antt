@@ -16,13 +16,13 @@ use Rattle.base.proofs.RowLaws.{Decides, decided, at-lowest, no-row, told, tell
 use Rattle.eye.specs.declared.DbsParams.{DbsParams}
 use Rattle.eye.specs.Eye.{eyeTests}
 use Rattle.fits.specs.Fits.{paletteFits, firstNotBelow, firstUnnamed}
-use Rattle.input.specs.Input.{Input, input, pixelCount, inkCount, sizeTest, pictureTest, halftoneTests, imageTests, inputTests, runTests, refineRunTests, openRunTests, findRunTests, refineTests, findTests, openTests}
-use Rattle.input.specs.Rows.{row6, row7, row8, row9, imageRows, inkRows, measureRows, inputRows, refineRows, findRows, openRows}
-use Rattle.fits.proofs.FirstNotBelow.{first-is, all-below}
+use Rattle.input.specs.Input.{Input, input, pixelCount, inkCount, sizeTest, pictureTest, maskTest, halftoneTests, imageTests, inputTests, runTests, refineRunTests, openRunTests, findRunTests, refineTests, findTests, openTests}
+use Rattle.input.specs.Rows.{row17, row6, row7, row8, row9, imageRows, inkRows, measureRows, inputRows, refineRows, findRows, openRows}
+use Rattle.fits.proofs.FirstNotBelow.{first-is, all-below, none-of}
 use Rattle.fits.proofs.Limits.{palette-iff}
 use Rattle.input.proofs.EyeValidity.{finite-positive-iff}
 
--- ---- rows 5 and 6
+-- ---- rows 5, 6 and 17
 
 palette-means : (palette : ℕ) → Means (not (paletteFits palette)) ((inks : ℕ) → 1 ≤ inks → inks ≤ maxInks → palette ≢ 3 * inks)
 palette-means palette =
@@ -42,11 +42,14 @@ not-below number n l rest =
     (λ e. let h = ltb-true place (length l) e in ((h, f .there h), λ q l w. omega (arith, f .before q l, w .1)))
     (λ e i w. omega (arith, all-below n l e i (w .0), w .1)) rest
 
+pub above-one : (pinned : List ℕ) {ts : List Test} {rs : List Row} → Decides ts rs → Decides (maskTest pinned ∷ ts) (row17 pinned ∷ rs)
+above-one pinned rest = not-below 17 2 pinned rest
+
 pub unnamed : (inks : ℕ) (indices : List ℕ) {ts : List Test} {rs : List Row} → Decides ts rs →
     Decides (test (ltb (firstUnnamed inks indices) (length indices)) 6 (firstUnnamed inks indices) ∷ ts) (row6 inks indices ∷ rs)
 unnamed inks indices rest = not-below 6 inks indices rest
 
--- ---- rows 1 to 9
+-- ---- rows 1 to 9, with 17
 
 eye-rows : (p : DbsParams) {ts : List Test} {rs : List Row} → Decides ts rs → Decides (eyeTests p ++ ts) (row7 p ∷ row8 p ∷ row9 p ∷ rs)
 unfolding eyeTests Rises
@@ -71,7 +74,7 @@ image-rows I rest =
 
 input-rows : (I : Input) {ts : List Test} {rs : List Row} → Decides ts rs → Decides (inputTests I ++ ts) (inputRows I ++ rs)
 unfolding inputTests imageTests halftoneTests inputRows imageRows inkRows eyeTests pixelCount inkCount
-input-rows I rest = image-rows I (at-0 (denied (not-or (ne (length (I .pinned)) 0) (ne (length (I .pinned)) (pixelCount I)))) (ink-rows I rest))
+input-rows I rest = image-rows I (at-0 (denied (not-or (ne (length (I .pinned)) 0) (ne (length (I .pinned)) (pixelCount I)))) (above-one (I .pinned) (ink-rows I rest)))
 
 -- ---- each call
 
@@ -107,7 +110,7 @@ module _ (I : Input) (passes tiles cpe cpp counts states deltas inks : ℕ) wher
       (tells (denied (ne inks (3 * inkCount I))) told))))))
       (omega arith) decided))
 
--- with an empty mask row 4 never holds
+-- with an empty mask rows 4 and 17 never hold
 pub measure-rows : (width height : ℕ) (pixels palette indices : List ℕ) (params : DbsParams) → let I = input width height pixels palette indices [] params in Decides (inputTests I) (measureRows I)
 unfolding inputTests imageTests halftoneTests measureRows imageRows inkRows eyeTests pixelCount inkCount
-measure-rows width height pixels palette indices params = let I = input width height pixels palette indices [] params in image-rows I (no-row _ refl (ink-rows I decided))
+measure-rows width height pixels palette indices params = let I = input width height pixels palette indices [] params in image-rows I (no-row _ refl (no-row (maskTest []) (none-of 2 [] (λ i h. absurd (omega arith))) (ink-rows I decided)))

@@ -24,7 +24,7 @@ valid-of : (I : Input) → Passes (inputTests I) → Valid I
 unfolding inputTests imageTests halftoneTests Passes pixelCount inkCount
 valid-of I p =
     let size = size-iff (I .width) (I .height) .0 (p .0) in
-    let palette = palette-iff (length (I .palette)) .0 (p .1 .1 .1 .1 .0) in
+    let palette = palette-iff (length (I .palette)) .0 (p .1 .1 .1 .1 .1 .0) in
     record {
       width-least = omega arith;
       width-most = omega arith;
@@ -32,11 +32,12 @@ valid-of I p =
       pixels-length = length-iff _ _ .0 (p .1 .0);
       indices-length = length-iff _ _ .0 (p .1 .1 .0);
       mask-length = mask-iff _ _ .0 (p .1 .1 .1 .0);
+      mask-bytes = λ i h. omega (arith, all-below 2 (I .pinned) (p .1 .1 .1 .1 .0) i h);
       palette-length = omega arith;
       inks-least = omega arith;
       inks-most = omega arith;
-      named = all-below _ _ (p .1 .1 .1 .1 .1 .0);
-      eye = eye-valid (I .params) (p .1 .1 .1 .1 .1 .1);
+      named = all-below _ _ (p .1 .1 .1 .1 .1 .1 .0);
+      eye = eye-valid (I .params) (p .1 .1 .1 .1 .1 .1 .1);
     }
 
 pub palette-whole : (I : Input) → Valid I → length (I .palette) % 3 ≡ 0
@@ -49,9 +50,10 @@ of-valid I v =
     let pixels = length-iff (length (I .pixels)) (3 * pixelCount I) .1 (v .pixels-length) in
     let indices = length-iff (length (I .indices)) (pixelCount I) .1 (v .indices-length) in
     let mask = mask-iff (length (I .pinned)) (pixelCount I) .1 (v .mask-length) in
+    let bytes = none-of 2 (I .pinned) (λ i h. omega (arith, v .mask-bytes i h)) in
     let palette = palette-iff (length (I .palette)) .1 (palette-whole I v, (v .inks-least, v .inks-most)) in
     let named = none-of (inkCount I) (I .indices) (v .named) in
-    (size, (pixels, (indices, (mask, (palette, (named, valid-eye (I .params) (v .eye)))))))
+    (size, (pixels, (indices, (mask, (bytes, (palette, (named, valid-eye (I .params) (v .eye))))))))
 
 pub valid-passes : (I : Input) → Passes (inputTests I) ↔ Valid I
 valid-passes I = (valid-of I, of-valid I)

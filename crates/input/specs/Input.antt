@@ -1,5 +1,6 @@
--- What refine, measure, find_move and open are given, and its tests: rows 1 to 11 of document 01's table of refusals, in order.
--- 'Refine (buffers 1, 2, 3, 8), open (1 to 5, 8) and measure (none) test 1 to 11 in number order, each what it is given'; find_move's buffers are 1, 2 and 8.
+-- What refine, measure, find_move and open are given, and its tests: rows 1 to 11 of document 01's table of refusals, in order, and document 02's row 17
+-- after row 4. 'Refine (buffers 1, 2, 3, 8), open (1 to 5, 8) and measure (none) test 1 to 11 in number order, each what it is given'; find_move's buffers
+-- are 1, 2 and 8.
 use Prim.Native.Nat.{ℕ, _*_, _/_}
 use mathlib.Core.Bool.{not}
 use mathlib.Core.List.{List, [], _∷_, _++_}
@@ -10,7 +11,7 @@ use Rattle.base.specs.Refusal.{Test, test, judge}
 use Rattle.eye.specs.declared.DbsParams.{DbsParams}
 use Rattle.eye.specs.declared.Eye.{Eye}
 use Rattle.eye.specs.Eye.{eyeTests, withRadii}
-use Rattle.fits.specs.Fits.{sizeFits, maskFits, paletteFits, firstUnnamed}
+use Rattle.fits.specs.Fits.{sizeFits, maskFits, paletteFits, firstUnnamed, firstAboveOne}
 
 -- Document 01's plane with its pixels, palette, indices and pin mask, and the eye record. Measuring has no mask: here an empty one.
 pub record Input : Type 0 where
@@ -34,7 +35,7 @@ pixelCount I = I .height * I .width
 unfoldable pub inkCount : Input → ℕ
 inkCount I = length (I .palette) / 3
 
--- ---- rows 1 to 9: an image, its halftone and the eye
+-- ---- rows 1 to 9 and 17: an image, its halftone and the eye
 
 -- row 1: 'w or h outside its limit'
 abbrev pub sizeTest : ℕ → ℕ → Test
@@ -44,21 +45,26 @@ sizeTest w h = test (not (sizeFits w h)) 1 0
 abbrev pub pictureTest : ℕ → ℕ → Test
 pictureTest n pixels = test (not (eqb pixels (3 * n))) 2 0
 
--- rows 3 to 6, of the halftone, for an image of n pixels: the length of the palette, the indices, and the mask; pinned pixels have an ink too
+-- row 17, of the mask: 'A mask with another byte is refused with 17, place the first such byte, after 4 and before everything after it'
+abbrev pub maskTest : List ℕ → Test
+maskTest pinned = let place = firstAboveOne pinned in test (ltb place (length pinned)) 17 place
+
+-- rows 3, 4, 17, 5 and 6, of the halftone, for an image of n pixels: the length of the palette, the indices, and the mask; pinned pixels have an ink too
 unfoldable pub halftoneTests : ℕ → ℕ → List ℕ → List ℕ → List Test
 halftoneTests n palette indices pinned =
     let place = firstUnnamed (palette / 3) indices in
     test (not (eqb (length indices) n)) 3 0  -- 'indices not n'
     ∷ test (not (maskFits (length pinned) n)) 4 0  -- 'mask neither 0 nor n'
+    ∷ maskTest pinned
     ∷ test (not (paletteFits palette)) 5 0  -- 'palette not 3 × (1–256) bytes'
     ∷ test (ltb place (length indices)) 6 place  -- 'an index names no ink', 'first such, from 0'
     ∷ []
 
--- rows 1 to 6, of a size, the lengths of the pixels and the palette, the indices and the mask
+-- rows 1 to 6 with 17, of a size, the lengths of the pixels and the palette, the indices and the mask
 unfoldable pub imageTests : ℕ → ℕ → ℕ → ℕ → List ℕ → List ℕ → List Test
 imageTests w h pixels palette indices pinned = sizeTest w h ∷ pictureTest (h * w) pixels ∷ halftoneTests (h * w) palette indices pinned
 
--- rows 1 to 9; with an empty mask row 4 passes, so that measuring is refused by 1, 2, 3 and 5 to 9 only
+-- rows 1 to 9 with 17; with an empty mask rows 4 and 17 pass, so that measuring is refused by 1, 2, 3 and 5 to 9 only
 unfoldable pub inputTests : Input → List Test
 inputTests I = imageTests (I .width) (I .height) (length (I .pixels)) (length (I .palette)) (I .indices) (I .pinned) ++ eyeTests (I .params)
 
@@ -109,7 +115,7 @@ findRunTests cpeWanted inksWanted cpe cpp inks = lengthTest 1 cpe cpeWanted ∷ 
 unfoldable pub refineTests : Input → ℕ → ℕ → ℕ → ℕ → ℕ → List Test
 refineTests I passes cpe cpp counts inks = inputTests I ++ refineRunTests passes (3 * pixelCount I) (3 * inkCount I) cpe cpp counts inks
 
--- 'It answers the opening refusals 1 to 9 and 11'
+-- 'It answers the opening refusals 1 to 9 and 11', with 17 in its place
 unfoldable pub findTests : Input → ℕ → ℕ → ℕ → List Test
 findTests I cpe cpp inks = inputTests I ++ findRunTests (3 * pixelCount I) (3 * inkCount I) cpe cpp inks
 

@@ -1,6 +1,6 @@
--- Rows 1 to 11 of document 01's table of refusals as conditions on what a call is given, each row apart from its tests, and the rows of refine, find_move,
--- open and measure in order: they 'test 1 to 11 in number order, each what it is given'. Job calls have rows 3, 4, 6 and 11 too. Lists are told by their lengths
--- where no more matters.
+-- Rows 1 to 11 of document 01's table of refusals, and document 02's row 17, as conditions on what a call is given, each row apart from its tests, and the rows
+-- of refine, find_move, open and measure in order: they 'test 1 to 11 in number order, each what it is given', 17 'after 4 and before everything after it'. Job
+-- calls have rows 3, 4, 17, 6 and 11 too. Lists are told by their lengths where no more matters.
 use Prim.Native.Nat.{ℕ, _*_, _≤_, _<_}
 use mathlib.Core.Logic.{_≢_, _⊎_}
 use mathlib.Core.List.{List, [], _∷_, _++_}
@@ -31,6 +31,10 @@ row3 n indices = rowAt0 3 (indices ≢ n)
 
 abbrev pub row4 : ℕ → ℕ → Row
 row4 n pinned = rowAt0 4 ((pinned ≢ 0) × (pinned ≢ n))
+
+-- 'a mask byte is 0 or 1. .. A mask with another byte is refused with 17, place the first such byte'; no place below the length reads the 0
+abbrev pub row17 : List ℕ → Row
+row17 pinned = rowWhere 17 (λ i. (i < length pinned) × (1 < getD pinned i 0))
 
 -- 'palette not 3 × (1–256) bytes'
 abbrev pub row5 : ℕ → Row
@@ -77,7 +81,7 @@ unfoldable pub measureRows : Input → List Row
 measureRows I = imageRows I ++ inkRows I
 
 unfoldable pub inputRows : Input → List Row
-inputRows I = imageRows I ++ (row4 (pixelCount I) (length (I .pinned)) ∷ inkRows I)
+inputRows I = imageRows I ++ (row4 (pixelCount I) (length (I .pinned)) ∷ row17 (I .pinned) ∷ inkRows I)
 
 -- 'Field: 3n f64', 'Kernel store: 8,450 f64', 'Counts: one u32 per allowed pass', 'ink values (3 f64 per ink)'
 unfoldable pub refineRows : Input → ℕ → ℕ → ℕ → ℕ → ℕ → List Row
@@ -85,7 +89,7 @@ refineRows I passes cpe cpp counts inks =
     let buffers : List Line = buffer 1 cpe (3 * pixelCount I) ∷ buffer 2 cpp cppLength ∷ buffer 3 counts passes ∷ buffer 8 inks (3 * inkCount I) ∷ [] in
     inputRows I ++ (row10 passes ∷ row11 buffers ∷ [])
 
--- find_move: rows 1 to 9 and 11
+-- find_move: rows 1 to 9 with 17, and 11
 unfoldable pub findRows : Input → ℕ → ℕ → ℕ → List Row
 findRows I cpe cpp inks =
     let buffers : List Line = buffer 1 cpe (3 * pixelCount I) ∷ buffer 2 cpp cppLength ∷ buffer 8 inks (3 * inkCount I) ∷ [] in

@@ -38,6 +38,8 @@ pub record Valid (I : Input) : Type 0 where
   pub pixels-length : length (I .pixels) ≡ 3 * pixelCount I
   pub indices-length : length (I .indices) ≡ pixelCount I
   pub mask-length : 0 < length (I .pinned) → length (I .pinned) ≡ pixelCount I
+  -- 'a mask byte is 0 or 1' (document 02, F-2); no place below the length reads the 0
+  pub mask-bytes : (i : ℕ) → i < length (I .pinned) → getD (I .pinned) i 0 ≤ 1
   -- 'Palette: 3 bytes for each of 1–256 inks'
   pub palette-length : length (I .palette) ≡ 3 * inkCount I
   pub inks-least : 1 ≤ inkCount I

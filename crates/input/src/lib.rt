@@ -1,4 +1,4 @@
-// The tests of what refine, measure, find_move and open are given: refusals 1 to 9 in order, as the lists of
+// The tests of what refine, measure, find_move and open are given: refusals 1 to 9 in order, 17 after 4, as the lists of
 // specs/Input.antt have them; 10 and 11 are in the crate `sizes`. Every function takes any numbers and slices of any length: the size is
 // tested before anything is multiplied. An input is accepted exactly where it is valid
 // (specs/Valid.antt, proofs/Validity.antt).
@@ -10,20 +10,28 @@ ghost use mathlib.Core.Path.{_≡_};
 ghost use Rattle.base.specs.Refusal.{next, judgeFrom};
 ghost use Rattle.input.specs.Input.{halftoneTests, imageTests, input, checkedOf, lengthTest};
 
-// Refusals 3 to 6, of an image of n pixels.
-fn check_halftone(s: Status, n: usize, palette_len: usize, indices: &[Index], pinned: &[u8]) -> Status
+// Refusals 3, 4, 17, 5 and 6, of an image of n pixels.
+fn check_halftone(
+    s: Status,
+    n: usize,
+    palette_len: usize,
+    indices: &[Index],
+    pinned: &[u8],
+) -> Status
     ensures { λ r. ⌜ r ≡ judgeFrom s (halftoneTests n «palette_len» (now (indices .entry)) (now (pinned .entry))) ⌝ }
 {
     let mask_fits = fits::is_mask(pinned.len(), n);
+    let above = fits::first_above_one(pinned);
     let palette_fits = fits::is_palette(palette_len);
     let unnamed = fits::first_unnamed(indices, palette_len / 3);
     let s1 = base::next(s, indices.len() != n, 3, 0);
     let s2 = base::next(s1, !mask_fits, 4, 0);
-    let s3 = base::next(s2, !palette_fits, 5, 0);
-    base::next(s3, unnamed < indices.len(), 6, unnamed as u64)
+    let s3 = base::next(s2, above < pinned.len(), 17, above as u64);
+    let s4 = base::next(s3, !palette_fits, 5, 0);
+    base::next(s4, unnamed < indices.len(), 6, unnamed as u64)
 }
 
-// Refusals 1 to 6.
+// Refusals 1 to 6, with 17 after 4.
 fn check_image(
     s: Status,
     width: u64,
@@ -44,7 +52,7 @@ fn check_image(
     check_halftone(s2, n, palette_len, indices, pinned)
 }
 
-// Refusals 1 to 9, and both kernel radii where none applies. Measuring lends an empty mask.
+// Refusals 1 to 9, with 17 after 4, and both kernel radii where none applies. Measuring lends an empty mask.
 pub fn check_input(
     width: u64,
     height: u64,

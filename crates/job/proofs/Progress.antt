@@ -219,6 +219,7 @@ module _ (words : List ℕ) (O : Opening) (ok : openRun words O .status ≡ acce
         valid = valid-record;
         tile-has = rw (H .recorded .planned) low;
         mask-length = λ h. ready O (opens words O ok) .mask h ∙ sym pixels-of;
+        mask-bytes = valid O (opens words O ok) .refine .valid .mask-bytes;
         cpp-length = ready O (opens words O ok) .cpp-room;
         room = record { cpe-length = rw (H .recorded .planned) (last-fits .cpe); indices-length = rw (H .recorded .planned) (last-fits .indices) };
         inks-length = rw (H .recorded .planned) (ready O (opens words O ok) .inks-room);

@@ -18,7 +18,7 @@ use Rattle.base.specs.Rows.{Row, Line}
 use Rattle.base.proofs.Meanings.{Means, denied, is, isnt, lt, ge, le, gt, ne, and, or, not-and, not-or}
 use Rattle.base.proofs.RowLaws.{Decides, decided, at-lowest, Tells, told, tells, Rises, by-lines, at-0}
 use Rattle.tiling.specs.Tiling.{tiles, inPhase, tile, region}
-use Rattle.input.proofs.RowsOf.{unnamed, open-rows}
+use Rattle.input.proofs.RowsOf.{above-one, unnamed, open-rows}
 use Rattle.tile.specs.Tile.{State}
 use Rattle.job.specs.declared.JobRecord.{JobRecord}
 use Rattle.job.specs.declared.TileState.the-variants.{Waiting, Out}
@@ -142,12 +142,13 @@ work-decides words t pinned cpp copy inks =
     first-12 words told tt
     (at-0 (denied (ge t (tiles (r .plan .tiling))))
     (at-0 (denied (not-or (ne (length pinned) 0) (ne (length pinned) (pixelsOf r))))
+    (above-one pinned
     (by-lines
     (tells (length-means (length cpp) cppLength)
     (tells (length-means (length (copy .cpe)) (3 * area (region (r .plan .tiling) t)))
     (tells (length-means (length (copy .indices)) (area (region (r .plan .tiling) t)))
     (tells (length-means (length inks) (3 * r .plan .inks)) told))))
-    (omega arith) (unnamed (r .plan .inks) (copy .indices) decided))))
+    (omega arith) (unnamed (r .plan .inks) (copy .indices) decided)))))
 
 pub close-decides : (words counts states : List ℕ) (deltas : List Float) → Decides (wordsTests words ++ closeTests (decode words) counts states deltas) (closeRows words counts states deltas)
 unfolding closeTests closeRows Rises

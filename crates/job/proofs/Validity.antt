@@ -223,20 +223,22 @@ module _ (r : JobRecord) (t : ℕ) (pinned : List ℕ) (cpp : List Float) (copy 
           valid = record-of r (q .0);
           tile-has = ltb-true _ _ (not-false _ (c .0));
           mask-length = mask-of _ _ (not-false _ (c .1 .0));
-          cpp-length = equal-of _ _ (c .1 .1 .0);
-          room = record { cpe-length = equal-of _ _ (c .1 .1 .1 .0); indices-length = equal-of _ _ (c .1 .1 .1 .1 .0) };
-          inks-length = equal-of _ _ (c .1 .1 .1 .1 .1 .0);
-          named = all-below _ _ (c .1 .1 .1 .1 .1 .1 .0);
+          mask-bytes = λ i h. omega (arith, all-below 2 pinned (c .1 .1 .0) i h);
+          cpp-length = equal-of _ _ (c .1 .1 .1 .0);
+          room = record { cpe-length = equal-of _ _ (c .1 .1 .1 .1 .0); indices-length = equal-of _ _ (c .1 .1 .1 .1 .1 .0) };
+          inks-length = equal-of _ _ (c .1 .1 .1 .1 .1 .1 .0);
+          named = all-below _ _ (c .1 .1 .1 .1 .1 .1 .1 .0);
         },
     λ v.
         let tile = ap not (lt-ltb _ _ (v .tile-has)) in
         let mask = ap not (of-mask (length pinned) (pixelsOf r) (v .mask-length)) in
+        let bytes = none-of 2 pinned (λ i h. omega (arith, v .mask-bytes i h)) in
         let kernels = of-equal (length cpp) cppLength (v .cpp-length) in
         let copy-cpe = of-equal (length (copy .cpe)) (3 * area (region (r .plan .tiling) t)) (v .room .cpe-length) in
         let copy-indices = of-equal (length (copy .indices)) (area (region (r .plan .tiling) t)) (v .room .indices-length) in
         let values = of-equal (length inks) (3 * r .plan .inks) (v .inks-length) in
         let named = none-of (r .plan .inks) (copy .indices) (v .named) in
-        passes-append (recordTests r) _ .1 (of-record r (v .valid), (tile, (mask, (kernels, (copy-cpe, (copy-indices, (values, (named, tt)))))))),
+        passes-append (recordTests r) _ .1 (of-record r (v .valid), (tile, (mask, (bytes, (kernels, (copy-cpe, (copy-indices, (values, (named, tt))))))))),
   )
 
 module _ (r : JobRecord) (counts states : List ℕ) (deltas : List Float) where

@@ -1,5 +1,6 @@
 -- Rows 12 to 16 of document 01's table of refusals as conditions on what a job call is given, each row apart from its tests, and the rows of each call in
--- order: 'Job calls test 12, 16, 13, 3, 4, 11, 14, 6, 15, where they apply; work doesn't test 16.' A call is given its record as a run of numbers.
+-- order: 'Job calls test 12, 16, 13, 3, 4, 11, 14, 6, 15, where they apply; work doesn't test 16.' Work is given a mask: row 17 stands after row 4. A call is
+-- given its record as a run of numbers.
 use Prim.Native.Nat.{ℕ, _+_, _*_, _%_, _≤_, _<_}
 use mathlib.Core.Path.{_≡_}
 use mathlib.Core.Logic.{_≢_, _⊎_}
@@ -11,7 +12,7 @@ use Rattle.base.specs.Grid.{area}
 use Rattle.base.specs.Limits.{maxSide, maxInks, maxPasses, maxRadius, cppLength}
 use Rattle.base.specs.Rows.{Row, Line, line, row, rowAt0, rowWhere}
 use Rattle.tiling.specs.Tiling.{tiles, inPhase, tile, region}
-use Rattle.input.specs.Rows.{Outside, row3, row4, row6, buffer, row11, openRows}
+use Rattle.input.specs.Rows.{Outside, row3, row4, row17, row6, buffer, row11, openRows}
 use Rattle.prepare.specs.Prepare.{tilingOf}
 use Rattle.tile.specs.Tile.{State}
 use Rattle.job.specs.declared.JobRecord.{JobRecord}
@@ -105,7 +106,7 @@ workRows words t pinned cpp copy inks =
     ∷ buffer 7 (length (copy .indices)) (area (region (r .plan .tiling) t))
     ∷ buffer 8 (length inks) (3 * r .plan .inks)
     ∷ [] in
-    row12 words [] ∷ workRow13 r t ∷ row4 (pixelsOf r) (length pinned) ∷ row11 buffers ∷ row6 (r .plan .inks) (copy .indices) ∷ []
+    row12 words [] ∷ workRow13 r t ∷ row4 (pixelsOf r) (length pinned) ∷ row17 pinned ∷ row11 buffers ∷ row6 (r .plan .inks) (copy .indices) ∷ []
 
 unfoldable pub putBackRows : List ℕ → ℕ → Pixels → List ℕ → List Float → State → List Row
 putBackRows words t image states deltas made =

@@ -55,6 +55,8 @@ pub record ValidWork (r : JobRecord) (t : ℕ) (pinned : List ℕ) (cpp : List F
   pub valid : ValidRecord r
   pub tile-has : t < tiles (r .plan .tiling)
   pub mask-length : 0 < length pinned → length pinned ≡ pixelsOf r
+  -- 'a mask byte is 0 or 1' (document 02, F-2), of the whole image's mask
+  pub mask-bytes : (i : ℕ) → i < length pinned → getD pinned i 0 ≤ 1
   pub cpp-length : length cpp ≡ cppLength
   pub room : ValidCopy r t copy
   pub inks-length : length inks ≡ 3 * r .plan .inks

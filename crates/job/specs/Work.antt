@@ -11,7 +11,7 @@ use Rattle.base.specs.Limits.{cppLength}
 use Rattle.base.specs.Refusal.{Test, test, judge, isAccepted}
 use Rattle.tiling.specs.Tiling.{tiles, region}
 use Rattle.fits.specs.Fits.{maskFits, firstUnnamed}
-use Rattle.input.specs.Input.{lengthTest}
+use Rattle.input.specs.Input.{maskTest, lengthTest}
 use Rattle.tile.specs.Tile.{State, state, noProgress}
 use Rattle.job.specs.declared.JobRecord.{JobRecord}
 use Rattle.job.specs.Record.{pixelsOf, jobShared, recordTests}
@@ -29,12 +29,13 @@ worked status made = record { status = status; made = made }
 unfoldable pub copyTest : JobRecord → List ℕ → Test
 copyTest r indices = let place = firstUnnamed (r .plan .inks) indices in test (ltb place (length indices)) 6 place
 
--- rows 12, 13 ('no such tile'), 4, 11 and 6, of a record, a tile, the whole image's mask, the kernels, the copy and the ink values
+-- rows 12, 13 ('no such tile'), 4, 17, 11 and 6, of a record, a tile, the whole image's mask, the kernels, the copy and the ink values
 unfoldable pub workTests : JobRecord → ℕ → List ℕ → List Float → Pixels → List Float → List Test
 workTests r t pinned cpp copy inks =
     recordTests r
     ++ (test (not (ltb t (tiles (r .plan .tiling)))) 13 0
     ∷ test (not (maskFits (length pinned) (pixelsOf r))) 4 0
+    ∷ maskTest pinned
     ∷ lengthTest 2 (length cpp) cppLength
     ∷ lengthTest 6 (length (copy .cpe)) (3 * area (region (r .plan .tiling) t))
     ∷ lengthTest 7 (length (copy .indices)) (area (region (r .plan .tiling) t))

@@ -1,4 +1,4 @@
-// Refining: `dbs_refine` of dbs.rs. Tests 1 to 11, and then an accepted input is refined.
+// Refining: `dbs_refine` of dbs.rs. Tests 1 to 11 and 17, and then an accepted input is refined.
 use accepted::DbsStats;
 use base::Index;
 use base::Status;

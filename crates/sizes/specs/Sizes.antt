@@ -26,7 +26,7 @@ sizes s T count field values = record { status = s; tiling = T; tiles = count; f
 abbrev pub noSizes : Status → Sizes
 noSizes s = sizes s (record { width = 0; height = 0; lum = 0; chroma = 0 }) 0 0 0
 
--- the judgement of rows 1 to 9 and, where it accepts, the sizes: 'Field: 3n f64', 'ink values (3 f64 per ink)'
+-- the judgement of rows 1 to 9 and 17 and, where it accepts, the sizes: 'Field: 3n f64', 'ink values (3 f64 per ink)'
 unfoldable pub sizesOf : Input → Sizes
 sizesOf I =
     let s = judge (inputTests I) in

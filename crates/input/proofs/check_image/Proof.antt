@@ -39,7 +39,7 @@ next-requires c κs = search needs
 
 returns : tie.Need-returns
 unfolding imageTests halftoneTests
-returns c = rw (← first (c .before .before)) (stays _ (_ ∷ _ ∷ _ ∷ _ ∷ _ ∷ []) (c .if1 .taken))
+returns c = rw (← first (c .before .before)) (stays _ (_ ∷ _ ∷ _ ∷ _ ∷ _ ∷ _ ∷ []) (c .if1 .taken))
 
 mul-n : tie.Need-mul-n
 mul-n c = omega (arith, product c)

@@ -17,7 +17,7 @@ use Rattle.worktests.proofs.check_work.Tie as tie
 lent : (c : tie.After-check-lent) → c .check-lent .result .number ≡ 0 → let a = c .before .before .before .before .before .before .before .before .args in ValidRecord (a .r) × (a .tile < tiles (a .r .plan .tiling))
 unfolding Numbered Passes
 lent c z =
-    let p = passed _ (_ ∷ _ ∷ _ ∷ []) (omega arith) (c .check-lent .ensures) z in
+    let p = passed _ (_ ∷ _ ∷ _ ∷ _ ∷ []) (omega arith) (c .check-lent .ensures) z in
     (valid-record _ (c .before .check-record .ensures) (p .0), ltb-true _ _ (not-false _ (p .1 .0)))
 
 check-record-requires : tie.Need-check-record-requires
