@@ -1,11 +1,11 @@
 -- `firstNotBelow` is the first place whose number is not below n: every number before it is, by induction on the list. Assumes nothing.
-use Prim.Native.Nat.{ℕ, zero, suc, _+_, _≤_, _<_}
-use mathlib.Core.Path.{_≡_, refl, sym}
-use mathlib.Core.Bool.{Bool, true, false, _||_}
+use Prim.Native.Nat.{ℕ, zero, suc, _≤_, _<_}
+use mathlib.Core.Path.{_≡_, refl}
+use mathlib.Core.Bool.{Bool, true, false}
 use mathlib.Core.List.{List, [], _∷_}
 use native.Mathlib.Omega.{arith}
-use borrow.Author.Tests.{ltb-true, ltb-false, lt-ltb, le-ltb, leb-true, leb-false}
-use lib.Dec.{leb, ltb}
+use borrow.Author.Tests.{ltb-true, ltb-false, lt-ltb, le-ltb}
+use lib.Dec.{ltb}
 use lib.ListN.{length, getD}
 use Rattle.fits.specs.Fits.{firstNotBelow}
 
@@ -74,17 +74,5 @@ none-of n l all = go (ltb (firstNotBelow n l) (length l)) refl
         let p = ltb-true (firstNotBelow n l) (length l) e in
         absurd (omega (arith, all (firstNotBelow n l) p, first-is n l .there p))
 
--- ---- a scan that goes to the end
-
--- whether one has been found before place i, and then before the next place
-pub found-by : (n : ℕ) (l : List ℕ) (i : ℕ) → i < length l → (ltb (firstNotBelow n l) i || leb n (getD l i 0)) ≡ ltb (firstNotBelow n l) (i + 1)
-found-by n l i inside = go (ltb (firstNotBelow n l) i) refl (leb n (getD l i 0)) refl
-  where
-    go : (b : Bool) → ltb (firstNotBelow n l) i ≡ b → (c : Bool) → leb n (getD l i 0) ≡ c → (b || c) ≡ ltb (firstNotBelow n l) (i + 1)
-    go true e c f = sym (lt-ltb (firstNotBelow n l) (i + 1) (omega (arith, ltb-true (firstNotBelow n l) i e)))
-    go false e true f =
-        let none = ltb-false (firstNotBelow n l) i e in
-        sym (lt-ltb (firstNotBelow n l) (i + 1) (omega (arith, found n l i inside none (leb-true n (getD l i 0) f))))
-    go false e false f =
-        let none = ltb-false (firstNotBelow n l) i e in
-        sym (le-ltb (firstNotBelow n l) (i + 1) (omega (arith, goes-on n l i inside none (leb-false n (getD l i 0) f))))
+pub none-first : (n : ℕ) (l : List ℕ) → ((i : ℕ) → i < length l → getD l i 0 < n) → firstNotBelow n l ≡ length l
+none-first n l all = omega (arith, first-is n l .bound, ltb-false (firstNotBelow n l) (length l) (none-of n l all))

@@ -1,3 +1,3 @@
 pub mod Limits
 pub mod FirstNotBelow
-mod Joined
+mod LargestLaws

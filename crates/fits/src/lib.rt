@@ -4,10 +4,9 @@ use base::Index;
 use base::MAX_INKS;
 use base::MAX_SIDE;
 ghost use mathlib.Core.Path.{_≡_};
-ghost use Prim.Native.Nat.{_≤_, _<_};
-ghost use lib.Dec.{ltb};
-ghost use lib.ListN.{length};
-ghost use Rattle.fits.specs.Fits.{isWithin, sizeFits, maskFits, paletteFits, firstUnnamed, firstAboveOne};
+ghost use Prim.Native.Nat.{max, _≤_, _<_};
+ghost use Rattle.fits.specs.Fits.{isWithin, sizeFits, maskFits, paletteFits, firstNotBelow, firstUnnamed, firstAboveOne};
+ghost use Rattle.fits.specs.Folds.{largestOf};
 
 pub fn is_within(low: u64, x: u64, high: u64) -> bool
     ensures { λ r. ⌜ r ≡ isWithin low x high ⌝ }
@@ -36,64 +35,69 @@ pub fn is_palette(palette_len: usize) -> bool
     palette_len % 3 == 0 && is_within(1, palette_len as u64 / 3, MAX_INKS as u64)
 }
 
-fn wide(b: Index) -> usize
+fn wide(b: u8) -> usize
     ensures { λ r. ⌜ r ≡ b ⌝ }
 {
     b as usize
 }
 
-// The place of the first index that names none of n inks, or the length.
-pub fn first_unnamed(indices: &[Index], n: usize) -> usize
-    ensures { λ r. ⌜ r ≡ firstUnnamed n (now (indices .entry)) ⌝ }
+fn larger(a: u8, b: u8) -> u8
+    ensures { λ r. ⌜ r ≡ max a b ⌝ }
 {
-    let mut i = 0;
-    while i < indices.len() {
-        if wide(indices[i]) >= n {
-            return i;
-        }
-        i += 1;
+    if a < b { b } else { a }
+}
+
+// The largest of the bytes, 0 of none: every byte is read and no branch taken, so that the compiler takes many bytes at once.
+fn largest(bytes: &[u8]) -> u8
+    ensures { λ r. ⌜ r ≡ largestOf (now (bytes .entry)) ⌝ }
+{
+    let mut most = 0;
+    for i in 0..bytes.len() {
+        most = larger(most, bytes[i]);
     }
-    i
+    most
 }
 
-// Whether a byte of the mask is above 1: then so are all bytes joined bit by bit. Every byte is read and no branch taken, so that the
-// compiler joins many at once.
-fn has_above_one(pinned: &[u8]) -> bool
-    ensures { λ r. ⌜ r ≡ ltb (firstAboveOne (now (pinned .entry))) (length (now (pinned .entry))) ⌝ }
+// Place i where its byte b is not below n, or the place known so far.
+fn nearer(place: usize, i: usize, b: u8, n: usize) -> usize
+    ensures { λ r. ⌜ (n ≤ b → r ≡ i) × (b < n → r ≡ place) ⌝ }
 {
-    let mut bits = 0_u8;
-    for i in 0..pinned.len() {
-        bits = bits | pinned[i];
-    }
-    bits > 1
+    if wide(b) >= n { i } else { place }
 }
 
-// Place i where its byte b is above 1, or the place known so far.
-fn nearer(place: usize, i: usize, b: u8) -> usize
-    ensures { λ r. ⌜ (1 < b → r ≡ i) × (b ≤ 1 → r ≡ place) ⌝ }
+// The place of the first byte that is not below n, or the length, byte by byte.
+fn place_not_below(bytes: &[u8], n: usize) -> usize
+    ensures { λ r. ⌜ r ≡ firstNotBelow n (now (bytes .entry)) ⌝ }
 {
-    if b > 1 { i } else { place }
-}
-
-// The place of the first byte above 1, or the length, byte by byte.
-fn place_above_one(pinned: &[u8]) -> usize
-    ensures { λ r. ⌜ r ≡ firstAboveOne (now (pinned .entry)) ⌝ }
-{
-    let mut place = pinned.len();
+    let mut place = bytes.len();
     let mut i = 0;
     while i < place {
-        place = nearer(place, i, pinned[i]);
+        place = nearer(place, i, bytes[i], n);
         i += 1;
     }
     place
 }
 
-// The same. Most masks have none: the place is searched where there is one.
+// The same. Most lists have none: the place is searched where the largest byte is not below n.
+fn first_not_below(bytes: &[u8], n: usize) -> usize
+    ensures { λ r. ⌜ r ≡ firstNotBelow n (now (bytes .entry)) ⌝ }
+{
+    if wide(largest(bytes)) < n {
+        return bytes.len();
+    }
+    place_not_below(bytes, n)
+}
+
+// The place of the first index that names none of so many inks, or the length.
+pub fn first_unnamed(indices: &[Index], inks: usize) -> usize
+    ensures { λ r. ⌜ r ≡ firstUnnamed inks (now (indices .entry)) ⌝ }
+{
+    first_not_below(indices, inks)
+}
+
+// The place of the first byte of a mask above 1, or the length.
 pub fn first_above_one(pinned: &[u8]) -> usize
     ensures { λ r. ⌜ r ≡ firstAboveOne (now (pinned .entry)) ⌝ }
 {
-    if has_above_one(pinned) {
-        return place_above_one(pinned);
-    }
-    pinned.len()
+    first_not_below(pinned, 2)
 }
