@@ -6,3 +6,7 @@ use mathlib.Core.List.{List, [], _∷_}
 unfoldable pub largestOf : List ℕ → ℕ
 largestOf [] = 0
 largestOf (k ∷ ks) = max k (largestOf ks)
+
+-- the largest number of four lists
+unfoldable pub largestOfFour : List ℕ → List ℕ → List ℕ → List ℕ → ℕ
+largestOfFour a b c d = max (max (largestOf a) (largestOf b)) (max (largestOf c) (largestOf d))

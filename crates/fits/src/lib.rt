@@ -5,8 +5,9 @@ use base::MAX_INKS;
 use base::MAX_SIDE;
 ghost use mathlib.Core.Path.{_≡_};
 ghost use Prim.Native.Nat.{max, _≤_, _<_};
+ghost use lib.ListN.{length};
 ghost use Rattle.fits.specs.Fits.{isWithin, sizeFits, maskFits, paletteFits, firstNotBelow, firstUnnamed, firstAboveOne};
-ghost use Rattle.fits.specs.Folds.{largestOf};
+ghost use Rattle.fits.specs.Folds.{largestOf, largestOfFour};
 
 pub fn is_within(low: u64, x: u64, high: u64) -> bool
     ensures { λ r. ⌜ r ≡ isWithin low x high ⌝ }
@@ -47,7 +48,7 @@ fn larger(a: u8, b: u8) -> u8
     if a < b { b } else { a }
 }
 
-// The largest of the bytes, 0 of none: every byte is read and no branch taken, so that the compiler takes many bytes at once.
+// The largest of the bytes, 0 of none.
 fn largest(bytes: &[u8]) -> u8
     ensures { λ r. ⌜ r ≡ largestOf (now (bytes .entry)) ⌝ }
 {
@@ -56,6 +57,38 @@ fn largest(bytes: &[u8]) -> u8
         most = larger(most, bytes[i]);
     }
     most
+}
+
+fn largest_of(a: u8, b: u8, c: u8, d: u8) -> u8
+    ensures { λ r. ⌜ r ≡ max (max a b) (max c d) ⌝ }
+{
+    larger(larger(a, b), larger(c, d))
+}
+
+// The largest of the bytes of four lists of one length: every byte is read and no branch taken, so that the compiler takes
+// many bytes at once.
+fn largest_of_four(a: &[u8], b: &[u8], c: &[u8], d: &[u8]) -> u8
+    requires { ⌜ (length (now b) ≡ length (now a)) × (length (now c) ≡ length (now a)) × (length (now d) ≡ length (now a)) ⌝ }
+    ensures { λ r. ⌜ r ≡ largestOfFour (now (a .entry)) (now (b .entry)) (now (c .entry)) (now (d .entry)) ⌝ }
+{
+    let mut most = 0;
+    for i in 0..a.len() {
+        most = larger(most, largest_of(a[i], b[i], c[i], d[i]));
+    }
+    most
+}
+
+// The largest of the bytes, 0 of none: four quarters side by side, which are read faster than one after the other, and then
+// what is left.
+fn largest_by_quarters(bytes: &[u8]) -> u8
+    ensures { λ r. ⌜ r ≡ largestOf (now (bytes .entry)) ⌝ }
+{
+    let k = bytes.len() / 4;
+    let b = k + k;
+    let c = b + k;
+    let d = c + k;
+    let quarters = largest_of_four(&bytes[0..k], &bytes[k..b], &bytes[b..c], &bytes[c..d]);
+    larger(quarters, largest(&bytes[d..bytes.len()]))
 }
 
 // Place i where its byte b is not below n, or the place known so far.
@@ -82,7 +115,7 @@ fn place_not_below(bytes: &[u8], n: usize) -> usize
 fn first_not_below(bytes: &[u8], n: usize) -> usize
     ensures { λ r. ⌜ r ≡ firstNotBelow n (now (bytes .entry)) ⌝ }
 {
-    if wide(largest(bytes)) < n {
+    if wide(largest_by_quarters(bytes)) < n {
         return bytes.len();
     }
     place_not_below(bytes, n)
