@@ -3,9 +3,9 @@
 use std::sync::{Condvar, Mutex};
 
 use crate::image::Image;
-use crate::library::{dbs_close, dbs_open, dbs_put_back, dbs_take, dbs_work, Status, Worked};
+use crate::library::{Library, Status, Worked, LINKED};
 use crate::outcome::Outcome;
-use crate::times::Times;
+use crate::times::{processor_time_of, Times};
 
 // Places in a job record.
 const LUMINANCE_RADIUS: usize = 3;
@@ -50,14 +50,19 @@ impl Tiling {
 
 /// Opens the job and returns its record. Tiles have one side up to kernel radius 30 and another at 32: a refusal for
 /// the length of the tile states changes nothing, so both are tried.
-fn open(image: &Image, max_passes: usize, result: &mut Outcome) -> ([u64; RECORD_LEN], Vec<u8>, Vec<f64>) {
+fn open(
+    library: Library,
+    image: &Image,
+    max_passes: usize,
+    result: &mut Outcome,
+) -> ([u64; RECORD_LEN], Vec<u8>, Vec<f64>) {
     for radius in [30, 32] {
         let tiling = Tiling::new(image, radius);
         let tiles = tiling.columns * tiling.rows;
         let (mut record, mut tile_states, mut deltas) = ([0; RECORD_LEN], vec![0; tiles], vec![0.0; tiles]);
         // Sound: every slice is live and none overlaps another.
         let status = unsafe {
-            dbs_open(
+            (library.dbs_open)(
                 record.as_mut_ptr(),
                 RECORD_LEN,
                 image.pixels.as_ptr(),
@@ -101,6 +106,7 @@ fn accepted(status: Status, call: &str) {
 
 /// What take, put_back and close change, under one lock.
 struct Job<'a> {
+    library: Library,
     record: [u64; RECORD_LEN],
     indices: &'a mut [u8],
     cpe: &'a mut [f64],
@@ -113,6 +119,7 @@ struct Job<'a> {
 
 /// What no call changes while workers run.
 struct Fixed<'a> {
+    library: Library,
     tiling: Tiling,
     pinned: &'a [u8],
     cpp: &'a [f64],
@@ -146,7 +153,7 @@ impl Job<'_> {
         assert!(3 * pixels <= copy.cpe.len() && pixels <= copy.indices.len());
         // Sound: as above, the copies cut to the region's length.
         let status = unsafe {
-            dbs_take(
+            (self.library.dbs_take)(
                 self.record.as_ptr(),
                 RECORD_LEN,
                 tile as u64,
@@ -166,10 +173,11 @@ impl Job<'_> {
         self.out += 1;
     }
 
-    fn put_back(&mut self, tile: usize, pixels: usize, copy: &Copy, count: u64, delta: f64) {
+    fn put_back(&mut self, tile: usize, pixels: usize, copy: &Copy, worked: Worked) {
+        assert_eq!((worked.number, worked.place), (0, 0), "dbs_work refused");
         // Sound: as in take.
         let status = unsafe {
-            dbs_put_back(
+            (self.library.dbs_put_back)(
                 self.record.as_mut_ptr(),
                 RECORD_LEN,
                 tile as u64,
@@ -185,8 +193,8 @@ impl Job<'_> {
                 3 * pixels,
                 copy.indices.as_ptr(),
                 pixels,
-                count,
-                delta,
+                worked.accepted,
+                worked.delta,
             )
         };
         accepted(status, "dbs_put_back");
@@ -196,7 +204,7 @@ impl Job<'_> {
     fn close(&mut self) {
         // Sound: as above.
         let status = unsafe {
-            dbs_close(
+            (self.library.dbs_close)(
                 self.record.as_mut_ptr(),
                 RECORD_LEN,
                 self.accepted_per_pass.as_mut_ptr(),
@@ -217,7 +225,7 @@ fn refine_copy(record: &[u64; RECORD_LEN], tile: usize, pixels: usize, fixed: &F
     assert!(3 * pixels <= copy.cpe.len() && pixels <= copy.indices.len());
     // Sound: as in take.
     unsafe {
-        dbs_work(
+        (fixed.library.dbs_work)(
             record.as_ptr(),
             RECORD_LEN,
             tile as u64,
@@ -245,9 +253,8 @@ fn work(job: &Mutex<Job>, closed: &Condvar, fixed: &Fixed, copy: &mut Copy) {
             let record = guard.record;
             drop(guard);
             let worked = refine_copy(&record, tile, pixels, fixed, copy);
-            assert_eq!((worked.number, worked.place), (0, 0), "dbs_work refused");
             guard = job.lock().unwrap();
-            guard.put_back(tile, pixels, copy, worked.accepted, worked.delta);
+            guard.put_back(tile, pixels, copy, worked);
         } else if guard.out > 0 {
             guard = closed.wait(guard).unwrap();
         } else {
@@ -258,12 +265,18 @@ fn work(job: &Mutex<Job>, closed: &Condvar, fixed: &Fixed, copy: &mut Copy) {
 }
 
 /// An open job on the buffers of `result`, whose indices are the start, and what is fixed; with the time of open.
-fn opened<'a>(image: &'a Image, max_passes: usize, result: &'a mut Outcome, opens: &mut Times) -> (Job<'a>, Fixed<'a>) {
-    let (record, tile_states, deltas) = opens.add(|| open(image, max_passes, result));
+fn opened<'a>(
+    library: Library,
+    image: &'a Image,
+    max_passes: usize,
+    result: &'a mut Outcome,
+    opens: &mut Times,
+) -> (Job<'a>, Fixed<'a>) {
+    let (record, tile_states, deltas) = opens.add(|| open(library, image, max_passes, result));
     let tiling = Tiling::new(image, record[LUMINANCE_RADIUS].max(record[CHROMINANCE_RADIUS]) as usize);
     let Outcome { indices, cpe, cpp, inks, accepted_per_pass, .. } = result;
-    let job = Job { record, indices, cpe, accepted_per_pass, tile_states, deltas, next: 0, out: 0 };
-    (job, Fixed { tiling, pinned: &image.pinned, cpp, inks })
+    let job = Job { library, record, indices, cpe, accepted_per_pass, tile_states, deltas, next: 0, out: 0 };
+    (job, Fixed { library, tiling, pinned: &image.pinned, cpp, inks })
 }
 
 /// A job on the buffers of `result`, whose indices are the start, with the times of open and of everything after it. The
@@ -276,7 +289,7 @@ pub fn refine(
     opens: &mut Times,
     works: &mut Times,
 ) {
-    let (job, fixed) = opened(image, max_passes, result, opens);
+    let (job, fixed) = opened(LINKED, image, max_passes, result, opens);
     let mut copies: Vec<Copy> = (0..threads).map(|_| Copy::new(&fixed.tiling)).collect();
     let (job, closed) = (Mutex::new(job), Condvar::new());
     works.add(|| {
@@ -287,9 +300,40 @@ pub fn refine(
         })
     });
     let record = job.into_inner().unwrap().record;
+    tell(&record, result);
+}
+
+fn tell(record: &[u64; RECORD_LEN], result: &mut Outcome) {
     result.passes = record[PASSES_DONE];
     result.initial_error = f64::from_bits(record[INITIAL_ERROR]);
     result.final_error = f64::from_bits(record[FINAL_ERROR]);
+}
+
+/// A job by one library, on one thread; of each tile the milliseconds in which it is taken, worked and put back, in order.
+pub fn tile_times(library: Library, image: &Image, max_passes: usize, result: &mut Outcome) -> Vec<f64> {
+    let (mut job, fixed) = opened(library, image, max_passes, result, &mut Times::default());
+    let mut copy = Copy::new(&fixed.tiling);
+    let mut times = vec![];
+    while job.record[FINISHED] == 0 {
+        let Some(tile) = job.next_tile(&fixed.tiling) else {
+            job.close();
+            continue;
+        };
+        let pixels = fixed.tiling.region_pixels(tile);
+        times.push(processor_time_of(|| {
+            job.take(tile, pixels, &mut copy);
+            let worked = refine_copy(&job.record, tile, pixels, &fixed, &mut copy);
+            job.put_back(tile, pixels, &copy, worked);
+        }));
+    }
+    let record = job.record;
+    tell(&record, result);
+    times
+}
+
+/// The milliseconds in which a library opens a job.
+pub fn open_time(library: Library, image: &Image, max_passes: usize, result: &mut Outcome) -> Vec<f64> {
+    vec![processor_time_of(|| drop(opened(library, image, max_passes, result, &mut Times::default())))]
 }
 
 /// The first tile of an open job, to be worked on again and again as it was taken.
@@ -306,7 +350,7 @@ pub struct FirstTile<'a> {
 impl<'a> FirstTile<'a> {
     /// Of a job on the buffers of `result`, whose indices are the start.
     pub fn new(image: &'a Image, result: &'a mut Outcome) -> Self {
-        let (mut job, fixed) = opened(image, 1, result, &mut Times::default());
+        let (mut job, fixed) = opened(LINKED, image, 1, result, &mut Times::default());
         let (pixels, mut taken) = (fixed.tiling.region_pixels(0), Copy::new(&fixed.tiling));
         job.take(0, pixels, &mut taken);
         Self { record: job.record, pixels, fixed, copy: taken.clone(), taken, answer: (0, 0) }

@@ -1,6 +1,7 @@
 //! The library and the copy of the Rust, measured in one run on the same images; what they leave is compared. Built and
 //! run by bench/run.
 
+mod before;
 mod image;
 mod job;
 mod library;
@@ -18,6 +19,7 @@ use std::fs::read_to_string;
 use std::process::ExitCode;
 
 use image::{image, Image, Input, Start};
+use library::LINKED;
 use outcome::Outcome;
 use times::Times;
 
@@ -33,7 +35,7 @@ fn main() -> ExitCode {
     let words: Vec<String> = std::env::args().skip(1).collect();
     let words: Vec<&str> = words.iter().map(String::as_str).collect();
     let (table, rest) = match words.as_slice() {
-        [table @ ("--inputs" | "--sizes" | "--passes" | "--settled" | "--mask"), rest @ ..] => (*table, rest),
+        [table @ ("--inputs" | "--sizes" | "--passes" | "--settled" | "--mask" | "--before"), rest @ ..] => (*table, rest),
         rest => ("--parts", rest),
     };
     let runs = match rest {
@@ -42,13 +44,14 @@ fn main() -> ExitCode {
         _ => None,
     };
     let Some(runs) = runs else {
-        eprintln!("usage: bench/run [--inputs | --sizes | --passes | --settled | --mask] [--runs N]");
+        eprintln!("usage: bench/run [--inputs | --sizes | --passes | --settled | --mask | --before LIBRARY] [--runs N]");
         return ExitCode::from(2);
     };
     println!("{}", machine());
     match table {
         "--settled" => print_converged(runs),
         "--mask" => mask::print(runs),
+        "--before" => before::print(runs),
         _ => print_beside_copy(table, runs),
     }
     println!("{}", machine());
@@ -90,12 +93,12 @@ struct Parts {
 /// One run of both on the same image; says what differs. `lent` are the library's buffers.
 fn run(image: &Image, lent: &mut Outcome, ours: &mut Parts, rusts: &mut Parts) -> Outcome {
     lent.indices.copy_from_slice(&image.indices);
-    ours.build_up.add(|| library::refine(image, 0, lent));
+    ours.build_up.add(|| LINKED.refine(image, 0, lent));
     rusts.build_up.add(|| rust::refine(image, 0));
-    ours.whole.add(|| library::refine(image, MAX_PASSES, lent));
+    ours.whole.add(|| LINKED.refine(image, MAX_PASSES, lent));
     let expected = rusts.whole.add(|| rust::refine(image, MAX_PASSES)).outcome(image, MAX_PASSES);
     report(lent.difference(&expected));
-    let found = ours.measure.add(|| library::measure(image, &image.indices));
+    let found = ours.measure.add(|| LINKED.measure(image, &image.indices));
     let measured = rusts.measure.add(|| rust::measure(image));
     report((found.to_bits() != measured.to_bits()).then_some("perceived error"));
     expected
@@ -122,7 +125,7 @@ fn print_parts(ppi: f64, runs: usize) {
         passes = expected.passes;
         let found = fresh.add(|| {
             let mut outcome = Outcome::new(&image, MAX_PASSES);
-            library::refine(&image, MAX_PASSES, &mut outcome);
+            LINKED.refine(&image, MAX_PASSES, &mut outcome);
             outcome
         });
         report(found.difference(&expected));
@@ -273,26 +276,32 @@ fn print_passes(runs: usize) {
         let mut times = Times::default();
         for _ in 0..runs {
             lent.indices.copy_from_slice(&image.indices);
-            times.add(|| library::refine(&image, passes, &mut lent));
+            times.add(|| LINKED.refine(&image, passes, &mut lent));
         }
         println!("| {passes} | {:.0} | {} |", times.median().processor, lent.accepted_per_pass[passes - 1]);
     }
     println!();
 }
 
+/// Refines the indices of `lent` until no move is left; the passes that it took.
+fn settle(image: &Image, lent: &mut Outcome) -> u64 {
+    let mut passes = 0;
+    while passes == 0 || lent.accepted_per_pass[0] > 0 {
+        LINKED.refine(image, lent.accepted_per_pass.len(), lent);
+        passes += lent.passes;
+    }
+    passes
+}
+
 /// The search of a picture in which no move is left, against a pass over it.
 fn print_converged(runs: usize) {
     let image = image(PICTURE);
     let mut lent = Outcome::new(&image, MOST_PASSES);
-    let mut passes = 0;
-    while passes == 0 || lent.accepted_per_pass[0] > 0 {
-        library::refine(&image, MOST_PASSES, &mut lent);
-        passes += lent.passes;
-    }
+    let passes = settle(&image, &mut lent);
     let (mut finds, mut refines) = (Times::default(), Times::default());
     for _ in 0..runs {
-        assert_eq!(finds.add(|| library::find_move(&image, &mut lent)), None);
-        refines.add(|| library::refine(&image, 1, &mut lent));
+        assert_eq!(finds.add(|| LINKED.find_move(&image, &mut lent)), None);
+        refines.add(|| LINKED.refine(&image, 1, &mut lent));
         assert_eq!(lent.accepted_per_pass[0], 0);
     }
     println!(

@@ -2,6 +2,7 @@
 
 use crate::image::Image;
 
+#[derive(Clone)]
 pub struct Outcome {
     pub indices: Vec<u8>,
     pub cpe: Vec<f64>,

@@ -71,6 +71,13 @@ extern "C" {
     fn clock_gettime(clock: i32, time: *mut Timespec) -> i32;
 }
 
+/// Milliseconds of processor time that it takes.
+pub fn processor_time_of(f: impl FnOnce()) -> f64 {
+    let start = processor_time();
+    f();
+    processor_time() - start
+}
+
 /// Of all threads of the process, by Linux on x86-64.
 fn processor_time() -> f64 {
     const CLOCK_PROCESS_CPUTIME_ID: i32 = 2;
