@@ -1,4 +1,6 @@
 // An accepted input refined: everything up to the walk, and the walk to its end.
+#![tactic(auto)]
+
 ghost use Rattle.std.specs.Prelude.{◌≡◌, length};
 ghost use Rattle.input.specs.Input.{input};
 ghost use Rattle.prepare.specs.Prepare.{ReadyToPrepare};
@@ -10,7 +12,7 @@ use tiling::Tiling;
 
 // Diagnostics of a run, or a refusal with zeros.
 #[repr(C)]
-#[derive(Drop)]
+#[derive(Clone, Copy)]
 pub struct DbsStats {
     pub number: u64,
     pub place: u64,

@@ -1,6 +1,8 @@
 // What the other crates stand on. The definitions are in specs/, their laws in proofs/: loops as
 // folds over a counter, windows of an image as flat lists, refusals as an ordered list of tests,
 // and f64 arithmetic under short names. Limits stand here once, in code and in specs/Limits.antt.
+#![tactic(auto)]
+
 ghost use Rattle.std.specs.Prelude.{◌≡◌, ◌-◌, ◌<◌, ◌≤◌, length};
 ghost use Prim.Native.Nat as nat;
 ghost use Rattle.base.specs.F64.{f0};
@@ -11,7 +13,7 @@ ghost use Rattle.base.specs.Refusal.{test, accepted, is_accepted};
 ghost use Rattle.base.specs.Refusal as spec;
 
 // Inclusive-exclusive rectangle [x0, x1) x [y0, y1) in image coordinates.
-#[derive(Drop)]
+#[derive(Clone, Copy)]
 pub struct Rect {
     pub x0: usize,
     pub y0: usize,
@@ -37,7 +39,7 @@ pub const CPP_LEN: usize = 8450;
 
 // A call's answer: 0, 0 means accepted, any other number is a refusal with its place.
 #[repr(C)]
-#[derive(Drop)]
+#[derive(Clone, Copy)]
 pub struct Status {
     pub number: u64,
     pub place: u64,

@@ -1,5 +1,7 @@
 // Floats as bits. A NaN has many patterns and is one value: each of them is read as it, and it is written as
 // 7ff8000000000000: no sign, all of the exponent, and of the fraction the highest digit only.
+#![tactic(auto)]
+
 ghost use Rattle.std.specs.Prelude.{◌≡◌};
 ghost use Rattle.std.specs.Float.{binary64};
 ghost use Rattle.std.specs.Float.Ieee.{of_bits, to_bits, nan_bits};

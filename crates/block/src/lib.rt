@@ -1,6 +1,8 @@
 // The error of an image correlated with a square of taps, a block of sums at a time: what `correlate`
 // and `perceived_error` of dbs.rs have in common. There is no list of errors: they are computed row by
 // row, and each row is added to the sums that it reaches.
+#![tactic(auto)]
+
 ghost use Rattle.std.specs.Prelude.{◌≡◌, ◌+◌, ◌-◌, ◌*◌, ◌≤◌, min, length};
 ghost use Rattle.base.specs.Limits.{max_side};
 ghost use Rattle.light.specs.Lut.{srgb_to_linear};
@@ -13,7 +15,7 @@ use correlate::Lines;
 
 // Sums of one channel of an image's error: as many columns as a line has, and so many rows, from
 // (x, y) on. A sum takes the pixels from `before` columns and rows before its place to `after` behind it.
-#[derive(Drop)]
+#[derive(Clone, Copy)]
 pub struct Block {
     pub width: usize,
     pub height: usize,

@@ -1,5 +1,7 @@
 // The eye-model blur of a width (dbs.rs: gaussian_blur). A kernel of radius r is a square table of (2r + 1) x (2r + 1) values, row
 // by row.
+#![tactic(auto)]
+
 ghost use Rattle.std.specs.Prelude.{◌≡◌, ◌*◌, ◌≤◌, ◌<◌, length};
 ghost use Rattle.eye.specs.Eye.{Narrow, blur_radius};
 ghost use Rattle.blur.specs.Blur.{kernel_side, values, gaussian_line, sum_of, blur_of, gaussian_blur};

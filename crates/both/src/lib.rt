@@ -1,5 +1,7 @@
 // Both kernels added round two neighbours at once, as a swap asks for: row by row, where both reach
 // each pixel grows by the one and then by the other; then what each of the two reaches alone.
+#![tactic(auto)]
+
 ghost use Rattle.std.specs.Prelude.{◌≡◌, ◌+◌, ◌*◌, ◌<◌, ◌≤◌, length};
 ghost use Rattle.base.specs.Grid.{area};
 ghost use Rattle.base.specs.Limits.{max_pixels, max_radius, cpp_chroma, cpp_length};
@@ -16,14 +18,14 @@ use sweep::Source;
 use tiling::Tiling;
 
 // Columns or rows from lo up to hi.
-#[derive(Drop)]
+#[derive(Clone, Copy)]
 pub struct Range {
     pub lo: usize,
     pub hi: usize,
 }
 
 // What both kernels reach; beside it, in the same rows, what the one reaches alone and what the other.
-#[derive(Drop)]
+#[derive(Clone, Copy)]
 pub struct Shared {
     pub common: Rect,
     pub one: Rect,
@@ -31,7 +33,7 @@ pub struct Shared {
 }
 
 // Where a row of a swap stands: what both reach, by the one and by the other, and what each reaches alone.
-#[derive(Drop)]
+#[derive(Clone, Copy)]
 pub struct Line {
     pub common: Span,
     pub other: Span,
@@ -40,7 +42,7 @@ pub struct Line {
 }
 
 // What a kernel reaches alone: columns beside what both reach, and whole rows.
-#[derive(Drop)]
+#[derive(Clone, Copy)]
 pub struct Rest {
     pub columns: Rect,
     pub rows: Rect,

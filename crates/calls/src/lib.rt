@@ -1,5 +1,7 @@
 // Calls of refine, of measure and of find_move: a line of compare/replay.txt is a call of each on parts of buffers, and their
 // answers are written in that file's form. In a line, numbers from 0 count its words.
+#![tactic(auto)]
+
 use accepted::DbsStats;
 use base::Index;
 use found::DbsFound;

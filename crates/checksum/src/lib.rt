@@ -1,4 +1,6 @@
 // Checksums of lent buffers, for the programs that are held to the copy of the Rust.
+#![tactic(auto)]
+
 ghost use Rattle.std.specs.Prelude.{◌<◌};
 
 // One step of the checksum.

@@ -1,5 +1,7 @@
 // Close: once every tile of the phase is back, its deltas join the error in ascending tile number and the
 // job goes on to the next phase, as the plain walk does.
+#![tactic(auto)]
+
 ghost use Rattle.std.specs.Prelude.{◌≡◌};
 ghost use Rattle.job.specs.Boundary.{close_run};
 ghost use Rattle.job.specs.Close.{closed, close_of};

@@ -1,4 +1,6 @@
 // Close's tests: refusals 12, 16, 11 and 15.
+#![tactic(auto)]
+
 ghost use Rattle.std.specs.Prelude.{◌≡◌, not, ◌&&◌, [], ◌∷◌, ◌<◌, ltb, length};
 ghost use Rattle.base.specs.Refusal.{test, judge, next, judge_from};
 ghost use Rattle.input.specs.Input.{length_test};

@@ -2,6 +2,8 @@
 //
 // Ports `SRGB_TO_XYZ` and `D65` of lab.rs, and of dbs.rs `srgb_to_yycxcz` and the palette's half of `to_yycxcz`. Each f64 operation is
 // the Rust's, in its order.
+#![tactic(auto)]
+
 ghost use Rattle.std.specs.Prelude.{◌≡◌, ◌+◌, ◌<◌, ◌%◌, length};
 ghost use Rattle.light.specs.Lut.{srgb_to_linear, linear};
 ghost use Rattle.color.specs.YyCxCz.{yycxcz};
@@ -9,7 +11,7 @@ ghost use Rattle.color.specs.Inks.{ink_values};
 ghost use Rattle.color.specs.Values.{values_at, less_of};
 
 // A colour: luminance Yy, red-green chrominance Cx, yellow-blue chrominance Cz.
-#[derive(Drop)]
+#[derive(Clone, Copy)]
 pub struct YyCxCz {
     pub yy: f64,
     pub cx: f64,

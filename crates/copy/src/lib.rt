@@ -1,6 +1,8 @@
 // A part of the image copied between two lists of pixels, row by row: out of the image into a tile's
 // copy (document 01's take), and back (put back). Either is the part w of one list pasted over the
 // other; proofs/Parts.antt has what that is where w is the whole of a list.
+#![tactic(auto)]
+
 ghost use Rattle.std.specs.Prelude.{◌≡◌, ◌*◌, ◌≤◌, ◌<◌, length};
 ghost use Rattle.std.specs.Float.{nan};
 ghost use Rattle.base.specs.Grid.{area, crop, paste};

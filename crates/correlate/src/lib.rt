@@ -1,13 +1,15 @@
 // Rows of sums that grow by a row of values, correlated with the rows of a kernel: the inner loops of
 // `correlate` and of `perceived_error` of dbs.rs. Each sum takes its terms one by one in the order of
 // dbs.rs; for speed the sums of a row take them side by side (crate `taps`).
+#![tactic(auto)]
+
 ghost use Rattle.std.specs.Prelude.{◌≡◌, suc, ◌+◌, ◌-◌, ◌*◌, ◌<◌, ◌≤◌, length};
 ghost use Rattle.correlate.specs.Correlate.{at, tap_sum, Changed, line_of, Spread, row_taps, RowFits, SpreadFits};
 
 use base::{saturating_sub, smaller};
 
 // Rows of sums that stand among other lines of a list: row y is line first + step·y.
-#[derive(Drop)]
+#[derive(Clone, Copy)]
 pub struct Lines {
     pub width: usize,
     pub first: usize,

@@ -1,4 +1,6 @@
 // What a toggle and a swap cost. Nothing here reads the image.
+#![tactic(auto)]
+
 ghost use Rattle.std.specs.Prelude.{◌≡◌};
 ghost use Rattle.cost.specs.Cost.{toggle_term, swap_term, toggle_cost, swap_cost};
 

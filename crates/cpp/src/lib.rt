@@ -1,5 +1,7 @@
 // The kernel store `cpp`: both autocorrelation kernels in one slice of 8,450 values, the luminance
 // kernel from 0 on and the chrominance kernel from 4,225 on. `Kernel2D` and its `at` of dbs.rs.
+#![tactic(auto)]
+
 ghost use Rattle.std.specs.Prelude.{◌≡◌, ◌<◌};
 ghost use Rattle.cpp.specs.Kernel.{KernelFits, size, kernel_at, lum_kernel, chroma_kernel};
 
@@ -8,7 +10,7 @@ use tiling::Tiling;
 
 // A kernel in the store: where its first value stands, and its radius. Its values stand row by
 // row, 2 radius + 1 a row.
-#[derive(Drop)]
+#[derive(Clone, Copy)]
 pub struct Kernel2D {
     pub from: usize,
     pub radius: usize,

@@ -1,6 +1,8 @@
 // The C interface (include/dbs.h): the static library. Numbers pass as themselves, a slice as a pointer
 // and then its number of elements, answers as structs by value. Each function hands on to the crate of its
 // call, whose contract it has.
+#![tactic(auto)]
+
 ghost use Rattle.std.specs.Prelude.{[], ◌≡◌};
 ghost use Rattle.progress.specs.Progress.{progress_of};
 ghost use Rattle.input.specs.Input.{input};

@@ -1,6 +1,8 @@
 // The error of a halftone against its target, pixel by pixel, and the initial error, given `cpe`: parts
 // of the first half of `dbs_refine` of dbs.rs, with `to_yycxcz`. There is no list of errors: they are
 // computed row by row, once for each channel.
+#![tactic(auto)]
+
 ghost use Rattle.std.specs.Prelude.{◌≡◌, ℕ, ◌*◌, length};
 ghost use Rattle.base.specs.Loop.{table};
 ghost use Rattle.base.specs.F64.{◌+f◌, ◌*f◌, f0};

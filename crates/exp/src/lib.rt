@@ -1,4 +1,6 @@
 // Document 01's exponential, on every f64.
+#![tactic(auto)]
+
 ghost use Rattle.std.specs.Prelude.{◌≡◌, ◌-◌};
 ghost use Rattle.exp.specs.Exp.{series, exp_of};
 

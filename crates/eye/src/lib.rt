@@ -1,6 +1,8 @@
 // The eye model of dbs.rs: blur widths in pixels, blur radii, and the tests of a
 // viewing geometry. Every function is defined on every f64, NaN and infinities included, unless its
 // `requires` says otherwise.
+#![tactic(auto)]
+
 ghost use Rattle.std.specs.Prelude.{◌≡◌, ◌≤◌};
 ghost use Rattle.base.specs.Refusal.{judge_from};
 ghost use Rattle.eye.specs.Eye.{to_degrees, sigma_px, is_finite_positive, Narrow, blur_radius, eye_tests, with_radii, eye_of};
@@ -28,7 +30,7 @@ const CM_PER_INCH: f64 = 2.54;
 const PI: f64 = 3.14159265358979323846264338327950288;
 
 // Document 01's eye record: the viewing geometry.
-#[derive(Drop)]
+#[derive(Clone, Copy)]
 pub struct DbsParams {
     // Distance between viewer and panel, in centimetres.
     pub viewing_distance_cm: f64,
@@ -37,7 +39,7 @@ pub struct DbsParams {
 }
 
 // What `validate` finds: 0, 0 with the radii of both autocorrelation kernels, or a refusal with zeros.
-#[derive(Drop)]
+#[derive(Clone, Copy)]
 pub struct Eye {
     pub status: Status,
     pub lum_radius: usize,

@@ -1,6 +1,8 @@
 // Computes both kernels of each eye of compare/eyes.txt and writes a line for it, to be held to the
 // copy of the Rust: the bits of ppi and of the viewing distance, then the kernel radii and a
 // checksum of all kernel values, or the number and the place of the refusal.
+#![tactic(auto)]
+
 ghost use Rattle.std.specs.Prelude.{◌≡◌, length};
 ghost use Rattle.base.specs.Limits.{cpp_length};
 ghost use Rattle.base.specs.Refusal.{judge, accepted};

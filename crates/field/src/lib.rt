@@ -1,6 +1,8 @@
 // `cpe`, the error correlated with the kernels: document 01's field, `correlate` of dbs.rs. It is worked
 // out into lines: line 3y + c of `cpe` is channel c of row y. At the end the lines of each row are woven
 // into a row of pixels.
+#![tactic(auto)]
+
 ghost use Rattle.std.specs.Prelude.{◌≡◌, ◌*◌, ◌<◌, length};
 ghost use Rattle.light.specs.Lut.{srgb_to_linear};
 ghost use Rattle.correlate.specs.Correlate.{Spread};

@@ -1,4 +1,6 @@
 // dbs_find_move: the tests, and then the first move that a pass over an accepted input would accept.
+#![tactic(auto)]
+
 ghost use Rattle.std.specs.Prelude.{◌≡◌, length};
 ghost use Rattle.input.specs.Input.{input};
 ghost use Rattle.prepare.specs.Prepare.{ReadyToPrepare};

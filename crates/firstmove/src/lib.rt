@@ -2,6 +2,8 @@
 // that the pass starts from. `cpe` and `indices` hold the image, and nothing of it is changed. Pixels are looked at by the
 // walk over a tile itself, on a copy of them and their neighbours: so that it weighs them, and stays the one caller of
 // `search::evaluate`, which the compiler then makes a part of it.
+#![tactic(auto)]
+
 ghost use Rattle.std.specs.Prelude.{◌≡◌, not, cond, ◌+◌, ◌-◌, ◌*◌, ◌≤◌, ◌<◌, min, eqb, length};
 ghost use Rattle.std.specs.Float.{nan};
 ghost use Rattle.base.specs.Limits.{max_side, max_pixels};
@@ -19,7 +21,7 @@ use search::Setup;
 use tiling::Tiling;
 
 // A pixel with the kind and the cost of its best move, or nothing.
-#[derive(Drop)]
+#[derive(Clone, Copy)]
 pub enum First {
     Nothing,
     ToggleAt { pixel: usize, cost: f64 },

@@ -1,5 +1,7 @@
 // The single tests that what a call is given lies within the limits, the first index that names no ink, and the first byte of a
 // mask above 1.
+#![tactic(auto)]
+
 ghost use Rattle.std.specs.Prelude.{◌≡◌, max, ◌≤◌, ◌<◌, length};
 ghost use Rattle.fits.specs.Fits.{is_within, size_fits, mask_fits, palette_fits, first_not_below, first_unnamed, first_above_one};
 ghost use Rattle.fits.specs.Folds.{largest_of, largest_of_four};

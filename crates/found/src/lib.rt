@@ -1,11 +1,13 @@
 // What dbs_find_move answers: by cases, and as the struct that hosts read.
+#![tactic(auto)]
+
 ghost use Rattle.std.specs.Prelude.{◌≡◌};
 ghost use Rattle.found.specs.Found.{refused_of, searched_of, found_of};
 
 use base::Status;
 use firstmove::First;
 
-#[derive(Drop)]
+#[derive(Clone, Copy)]
 pub enum Answer {
     Refused(Status),
     Searched(First),
@@ -17,7 +19,7 @@ const TOGGLE: u64 = 0;
 const SWAP: u64 = 1;
 
 #[repr(C)]
-#[derive(Drop)]
+#[derive(Clone, Copy)]
 pub struct DbsFound {
     pub number: u64,
     pub place: u64,

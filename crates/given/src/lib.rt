@@ -1,5 +1,7 @@
 // What a line of compare/replay.txt gives to a run, read into one buffer of bytes, and buffers written as checksums, in that
 // file's form. In a line, numbers from 0 count its words.
+#![tactic(auto)]
+
 use base::Status;
 
 const STDOUT: i32 = 1;
@@ -14,7 +16,7 @@ pub const PINNED: usize = 32768;
 pub const INDICES: usize = 49152;
 
 // How many bytes of each a line has.
-#[derive(Drop)]
+#[derive(Clone, Copy)]
 pub struct Given {
     pixels: usize,
     palette: usize,

@@ -1,1 +1,3 @@
 // Ink values and errors are numbers: proofs/Inks.antt.
+#![tactic(auto)]
+

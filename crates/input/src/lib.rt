@@ -2,6 +2,8 @@
 // specs/Input.antt have them; 10 and 11 are in the crate `sizes`. Every function takes any numbers and slices of any length: the size is
 // tested before anything is multiplied. An input is accepted exactly where it is valid
 // (specs/Valid.antt, proofs/Validity.antt).
+#![tactic(auto)]
+
 ghost use Rattle.std.specs.Prelude.{◌≡◌};
 ghost use Rattle.base.specs.Refusal.{next, judge_from};
 ghost use Rattle.input.specs.Input.{halftone_tests, image_tests, input, checked_of, length_test};

@@ -1,13 +1,15 @@
 // The job record: what open hands out, and what every call on a job takes and returns by value.
 // The definitions of the calls are in specs/, with the claim that tiles shared among workers give
 // the image of the plain walk (specs/Claim.antt); proofs/ has its proof.
+#![tactic(auto)]
+
 ghost use Rattle.std.specs.Prelude.{◌≡◌};
 ghost use Rattle.job.specs.Record.{byte_of};
 
 use tiling::Tiling;
 
 // What an open fixes and no call changes.
-#[derive(Drop)]
+#[derive(Clone, Copy)]
 pub struct Plan {
     // The image's size and the radii of both kernels.
     pub tiling: Tiling,
@@ -19,7 +21,7 @@ pub struct Plan {
 }
 
 // Document 01's job record. At the C boundary it is a run of numbers (specs/Words.antt).
-#[derive(Drop)]
+#[derive(Clone, Copy)]
 pub struct JobRecord {
     pub plan: Plan,
     // Passes done.
@@ -34,7 +36,7 @@ pub struct JobRecord {
 }
 
 // What `tile_states` holds of a tile: it waits for a worker, is with one, or is back.
-#[derive(Drop)]
+#[derive(Clone, Copy)]
 pub enum TileState {
     Waiting,
     Out,

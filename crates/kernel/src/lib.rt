@@ -1,4 +1,6 @@
 // The autocorrelation kernels of the eye-model blurs (dbs.rs: Kernel2D, autocorrelate). A kernel of radius r is a square table of (2r + 1) x (2r + 1) values, row by row.
+#![tactic(auto)]
+
 ghost use Rattle.std.specs.Prelude.{◌≡◌, ◌+◌, ◌*◌, ◌≤◌, ◌<◌, length};
 ghost use Rattle.base.specs.Limits.{cpp_chroma, cpp_length};
 ghost use Rattle.base.specs.Loop.{overwrite};

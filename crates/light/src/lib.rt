@@ -3,6 +3,8 @@
 // Ports `srgb_channel_to_linear` and `srgb_to_linear_lut` of color_space.rs. The Rust's entries come of `powf`, these are constants,
 // proved to be the quotients v / 255 / 12.92 for bytes v up to 10, and from 11 on the f64s nearest to the
 // standard's values.
+#![tactic(auto)]
+
 ghost use Rattle.std.specs.Prelude.{◌≡◌};
 ghost use Rattle.light.specs.Lut.{srgb_to_linear, linear};
 ghost use Rattle.light.specs.Transfer.{Rule};

@@ -1,5 +1,7 @@
 // The lines of compare/replay.txt: words separated by one space, numbers, floats by their bits, bytes of two
 // digits, each with how often it comes if that is more than once; parts of buffers, as long as a word says; and their like written.
+#![tactic(auto)]
+
 ghost use Rattle.std.specs.Prelude.{◌<◌, ◌≤◌, length};
 
 const STDOUT: i32 = 1;
@@ -95,7 +97,7 @@ pub fn float(line: &[u8], k: usize) -> f64 {
 }
 
 // How far bytes are read: where to read on, the last byte, how often it is still to come, and whether there is no more.
-#[derive(Drop)]
+#[derive(Clone, Copy)]
 struct Reader {
     at: usize,
     byte: u8,

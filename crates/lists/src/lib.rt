@@ -1,5 +1,7 @@
 // Lists of job calls: a line of compare/replay.txt is a call on parts of buffers, and its answer is written in
 // that file's form. One function to a kind of line. In a line, numbers from 0 count its words.
+#![tactic(auto)]
+
 ghost use Rattle.std.specs.Prelude.{◌≤◌};
 
 use base::{Index, Status};

@@ -1,6 +1,8 @@
 // The perceived error of a halftone: `perceived_error` of dbs.rs, given the blurs. It blurs the error,
 // with no correlation shortcut. Pins play no part. The blurred error is worked out in blocks of at most
 // 128 columns and 64 rows, so that what a block is made of is small.
+#![tactic(auto)]
+
 ghost use Rattle.std.specs.Prelude.{◌≡◌, [], ◌+◌, ◌*◌, ◌<◌, ◌≤◌, length};
 ghost use Rattle.base.specs.Limits.{max_side};
 ghost use Rattle.base.specs.Loop.{table};
@@ -15,7 +17,7 @@ use correlate::Lines;
 
 // An image and a blur's radius: the blurred error is non-zero up to so many pixels outside the image.
 // Its columns and rows are counted from its own corner.
-#[derive(Drop)]
+#[derive(Clone, Copy)]
 pub struct Frame {
     pub width: usize,
     pub height: usize,
@@ -23,7 +25,7 @@ pub struct Frame {
 }
 
 // One channel of an image, seen through a blur.
-#[derive(Drop)]
+#[derive(Clone, Copy)]
 pub struct View {
     pub frame: Frame,
     pub channel: usize,

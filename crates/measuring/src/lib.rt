@@ -1,4 +1,6 @@
 // An accepted input measured: ink values, both blurs of the eye, and the error of the halftone seen through them. Pins play no part.
+#![tactic(auto)]
+
 ghost use Rattle.std.specs.Prelude.{◌≡◌, [], ◌*◌, ◌≤◌, length};
 ghost use Rattle.base.specs.Limits.{max_inks};
 ghost use Rattle.base.specs.Refusal.{judge, accepted};

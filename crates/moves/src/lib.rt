@@ -1,5 +1,7 @@
 // Making a move: the end of `refine_tile` of dbs.rs, on a window of the image. Coordinates are the
 // image's; `cpe` and `indices` hold the pixels of the window.
+#![tactic(auto)]
+
 ghost use Rattle.std.specs.Prelude.{◌≡◌, [], ◌+◌, ◌*◌, ◌<◌, ◌≤◌, length};
 ghost use Rattle.base.specs.Limits.{max_side, max_inks, cpp_length};
 ghost use Rattle.base.specs.Grid.{Inside, Within, area, put};

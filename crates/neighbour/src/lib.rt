@@ -1,24 +1,26 @@
 // The eight neighbours of a pixel: `NEIGHBOURS` of dbs.rs as a decision over codes 0 to 7, and
 // `neighbour`, which finds the one that lies inside the image.
+#![tactic(auto)]
+
 ghost use Rattle.std.specs.Prelude.{◌≡◌, ◌<◌, ◌≤◌};
 ghost use Rattle.neighbour.specs.Neighbour.{Small, offset_of, shifted_of, neighbour_of};
 
 // An offset (dx, dy), or none.
-#[derive(Drop)]
+#[derive(Clone, Copy)]
 pub enum Offset {
     By(i8, i8),
     Nothing,
 }
 
 // A coordinate, or none.
-#[derive(Drop)]
+#[derive(Clone, Copy)]
 pub enum Shift {
     To(usize),
     Out,
 }
 
 // The neighbouring pixel, or none: it would lie outside the image, or no code names it.
-#[derive(Drop)]
+#[derive(Clone, Copy)]
 pub enum Adjacent {
     Pixel { x: usize, y: usize },
     Outside,

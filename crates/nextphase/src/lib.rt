@@ -1,5 +1,7 @@
 // What an accepted close makes: the phase's deltas joined to the error, its tiles set waiting, the record of the next
 // phase, and the count of a pass stored.
+#![tactic(auto)]
+
 ghost use Rattle.std.specs.Prelude.{◌≡◌, cond, ◌≤◌, ◌<◌, eqb, length, set};
 ghost use Rattle.base.specs.F64.{◌+f◌};
 ghost use Rattle.base.specs.Limits.{max_pixels, max_passes};

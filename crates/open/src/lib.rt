@@ -1,4 +1,6 @@
 // Open, on the run of words that the record is for a C host.
+#![tactic(auto)]
+
 ghost use Rattle.std.specs.Prelude.{◌≡◌};
 ghost use Rattle.input.specs.Input.{input};
 ghost use Rattle.job.specs.Open.{opening, opened};

@@ -1,5 +1,7 @@
 // The opening of a list of job calls: a line of compare/replay.txt is a call of open on parts of buffers, and its answer is
 // written in that file's form. In a line, numbers from 0 count its words.
+#![tactic(auto)]
+
 use base::Status;
 use given::Given;
 

@@ -1,4 +1,6 @@
 // Measuring: `perceived_error` of dbs.rs. Tests 1 to 9, and then an accepted input is measured. Pins play no part.
+#![tactic(auto)]
+
 ghost use Rattle.std.specs.Prelude.{◌≡◌, []};
 ghost use Rattle.input.specs.Input.{input};
 ghost use Rattle.perceived.specs.Perceived.{measure_of};
@@ -8,7 +10,7 @@ use eye::DbsParams;
 
 // The perceived error, or a refusal with a zero.
 #[repr(C)]
-#[derive(Drop)]
+#[derive(Clone, Copy)]
 pub struct Measured {
     pub number: u64,
     pub place: u64,

@@ -1,4 +1,6 @@
 // The tiles of a phase, one after the other on the whole image.
+#![tactic(auto)]
+
 ghost use Rattle.std.specs.Prelude.{◌≡◌, ◌<◌, ◌^◌, length};
 ghost use Rattle.tiling.specs.Tiling.{image, tiles};
 ghost use Rattle.search.specs.Shared.{shared, Ready};
@@ -8,7 +10,7 @@ use base::Index;
 use tiling::Tiling;
 
 // The error so far, and the moves accepted in this pass.
-#[derive(Drop)]
+#[derive(Clone, Copy)]
 pub struct Run {
     pub error: f64,
     pub accepted: usize,

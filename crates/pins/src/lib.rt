@@ -1,11 +1,13 @@
 // The pin mask: `is_pinned` of dbs.rs. A mask has no bytes, and pins nothing, or a byte for each
 // pixel, nonzero meaning pinned.
+#![tactic(auto)]
+
 ghost use Rattle.std.specs.Prelude.{◌≡◌};
 ghost use Rattle.pins.specs.Pins.{MaskFits, pinned_at};
 
 // Document 01's struct that refers to the mask: its bytes, and the image's width. The borrow checker
 // covers no function over such a struct, so `Pins::is_pinned` and `is_pinned` are proved by hand.
-#[derive(Drop)]
+#[derive(Clone, Copy)]
 pub struct Pins<'a> {
     pub pinned: &'a [u8],
     pub width: usize,

@@ -1,4 +1,6 @@
 // Where a pixel and its neighbours stand: their places in the window and in the mask. Coordinates are the image's.
+#![tactic(auto)]
+
 ghost use Rattle.std.specs.Prelude.{◌≡◌, true, ◌+◌, ◌-◌, ◌*◌, ◌<◌, ◌≤◌, length};
 ghost use Rattle.base.specs.Limits.{max_side};
 ghost use Rattle.base.specs.Grid.{Inside, Within, area};
@@ -13,7 +15,7 @@ use tiling::Tiling;
 
 // A pixel and its place in the window; where all eight neighbours lie in the image also the places,
 // in the window and in the mask, of the pixel above and left of it.
-#[derive(Drop)]
+#[derive(Clone, Copy)]
 pub struct Spot {
     pub x: usize,
     pub y: usize,

@@ -1,5 +1,7 @@
 // Document 01's program `plate`: a picture of a black and a white pixel, whose halftone has them the
 // wrong way round, is refined; it prints the indices, the passes run and the moves of each pass.
+#![tactic(auto)]
+
 use base::Index;
 
 const STDOUT: i32 = 1;

@@ -1,5 +1,7 @@
 // Everything up to the walk: the first half of `dbs_refine` of dbs.rs. Ink values, kernels, `cpe` and
 // the initial error of an accepted input, into lent buffers.
+#![tactic(auto)]
+
 ghost use Rattle.std.specs.Prelude.{◌≡◌, ◌*◌, length};
 ghost use Rattle.light.specs.Lut.{srgb_to_linear};
 ghost use Rattle.input.specs.Input.{input};

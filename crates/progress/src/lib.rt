@@ -1,11 +1,13 @@
 // How far a tile has got: the moves that were accepted, and the sum of their costs.
+#![tactic(auto)]
+
 ghost use Rattle.std.specs.Prelude.{◌≡◌, ◌<◌, ◌^◌};
 ghost use Rattle.progress.specs.Progress.{one_more, counted};
 
 use search::Move;
 
 // Moves accepted and the sum of their costs.
-#[derive(Drop)]
+#[derive(Clone, Copy)]
 pub struct Progress {
     pub accepted: usize,
     pub delta: f64,

@@ -1,4 +1,6 @@
 // Put back: a tile's copy is written over its region, its count added and its delta kept.
+#![tactic(auto)]
+
 ghost use Rattle.std.specs.Prelude.{◌≡◌};
 ghost use Rattle.progress.specs.Progress.{progress_of};
 ghost use Rattle.tile.specs.Tile.{state};

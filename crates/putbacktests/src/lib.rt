@@ -1,4 +1,6 @@
 // Put back's tests: refusals 12, 16, 13, 3, 11, 14 and 6.
+#![tactic(auto)]
+
 ghost use Rattle.std.specs.Prelude.{◌≡◌, [], ◌∷◌, not};
 ghost use Rattle.progress.specs.Progress.{progress_of};
 ghost use Rattle.base.specs.Refusal.{test, judge, next, judge_from};

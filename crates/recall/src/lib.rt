@@ -1,4 +1,6 @@
 // Recall: a tile that is out waits again. What its worker made of it is not asked for.
+#![tactic(auto)]
+
 ghost use Rattle.std.specs.Prelude.{◌≡◌};
 ghost use Rattle.base.specs.Refusal.{judge};
 ghost use Rattle.job.specs.declared.TileState.TheVariants.{Out};

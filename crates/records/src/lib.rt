@@ -1,5 +1,7 @@
 // The job record's tests and those that the calls on a job share, in document 01's order. Every test takes
 // any record: what is multiplied has been found within its limits before.
+#![tactic(auto)]
+
 ghost use Rattle.std.specs.Prelude.{◌≡◌, not, ◌&&◌, [], ◌∷◌, ◌*◌, ◌≤◌, ◌<◌, leb, ltb, eqb, length, take};
 ghost use Rattle.base.specs.Grid.{area};
 ghost use Rattle.base.specs.Limits.{max_side};

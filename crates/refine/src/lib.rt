@@ -1,4 +1,6 @@
 // Refining: `dbs_refine` of dbs.rs. Tests 1 to 11 and 17, and then an accepted input is refined.
+#![tactic(auto)]
+
 ghost use Rattle.std.specs.Prelude.{◌≡◌};
 ghost use Rattle.input.specs.Input.{input};
 ghost use Rattle.refine.specs.Refine.{refinement, refused_stats, refine_of};

@@ -1,5 +1,7 @@
 // A tile's region copied out of the image, and a copy written over it: rows of `cpe` and of the indices go into
 // parts of the lent copies, and back.
+#![tactic(auto)]
+
 ghost use Rattle.std.specs.Prelude.{◌≡◌, ◌*◌, ◌<◌, length};
 ghost use Rattle.base.specs.Grid.{area};
 ghost use Rattle.tiling.specs.Tiling.{Limits, tiles, region};

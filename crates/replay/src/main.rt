@@ -2,6 +2,8 @@
 // answers in that file's form, to be held to the copy of the Rust. What it reads and must write is made by
 //   grep -E '^(call|open|take|work|put_back|recall|close|word|index) ' compare/replay.txt > crates/replay/stdin
 //   grep -E '^(refine|measure|find|opened|taken|worked|back|recalled|closed) ' compare/replay.txt > crates/replay/stdout
+#![tactic(auto)]
+
 ghost use Rattle.std.specs.Prelude.{◌<◌, ◌≤◌, length};
 
 use base::Index;

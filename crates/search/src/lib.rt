@@ -1,5 +1,7 @@
 // The best move of one pixel: the search of `refine_tile` of dbs.rs, on a window of the image.
 // Coordinates are the image's; `cpe` and `indices` hold the pixels of the window.
+#![tactic(auto)]
+
 ghost use Rattle.std.specs.Prelude.{◌≡◌, ◌+◌, ◌-◌, ◌*◌, ◌<◌, ◌≤◌, length};
 ghost use Rattle.base.specs.Limits.{max_side, max_inks};
 ghost use Rattle.base.specs.Grid.{Inside, area};
@@ -15,7 +17,7 @@ use tables::Tables;
 use tiling::Tiling;
 
 // A move of a pixel. A swap names its neighbour by code.
-#[derive(Drop)]
+#[derive(Clone, Copy)]
 pub enum Move {
     Stay,
     Toggle(usize),
@@ -23,7 +25,7 @@ pub enum Move {
 }
 
 // The cheapest move so far and its cost.
-#[derive(Drop)]
+#[derive(Clone, Copy)]
 pub struct Best {
     pub cost: f64,
     pub mv: Move,
@@ -31,21 +33,21 @@ pub struct Best {
 
 // The same while moves are weighed, the move as a number, which goes by registers: j for a toggle to
 // ink j, MAX_INKS + code for a swap by that code, MAX_INKS + 8 for none.
-#[derive(Drop)]
+#[derive(Clone, Copy)]
 pub struct Choice {
     pub cost: f64,
     pub pick: usize,
 }
 
 // The pixel that is evaluated: its ink, and `cpe` there.
-#[derive(Drop)]
+#[derive(Clone, Copy)]
 pub struct Site {
     pub k: usize,
     pub c: YyCxCz,
 }
 
 // What every tile has in common: the image with its kernels' radii, and the number of inks.
-#[derive(Drop)]
+#[derive(Clone, Copy)]
 pub struct Setup {
     pub tiling: Tiling,
     pub inks: usize,

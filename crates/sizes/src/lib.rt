@@ -1,5 +1,7 @@
 // The sizes of an accepted input, and refusals 10 and 11, of the passes allowed and the buffers lent, which are
 // held to them. They follow 1 to 9: where one of those applies it stays the answer.
+#![tactic(auto)]
+
 ghost use Rattle.std.specs.Prelude.{◌≡◌};
 ghost use Rattle.base.specs.Refusal.{judge_from};
 ghost use Rattle.input.specs.Input.{input, run_tests, refine_run_tests, open_run_tests, find_run_tests};
@@ -11,7 +13,7 @@ use input::next_length;
 use tiling::Tiling;
 
 // The tiling of an input, its number of tiles, and the lengths of its field and of its ink values; zeros where it is refused.
-#[derive(Drop)]
+#[derive(Clone, Copy)]
 pub struct Sizes {
     pub status: Status,
     pub tiling: Tiling,

@@ -1,5 +1,7 @@
 // Pixels side by side that grow by a multiple of a kernel's values: what a move adds to `cpe`, a row at a time. `cpe` holds three
 // values a pixel. Where a row lies in the image is not known here.
+#![tactic(auto)]
+
 ghost use Rattle.std.specs.Prelude.{◌≡◌, ◌+◌, ◌*◌, ◌<◌, ◌≤◌, length};
 ghost use Rattle.spans.specs.Add.{grow, add_at};
 ghost use Rattle.spans.specs.Spans.{add_pixels, add_pairs, span_of, pair_span, Fits};
@@ -7,14 +9,14 @@ ghost use Rattle.spans.specs.Spans.{add_pixels, add_pairs, span_of, pair_span, F
 use color::YyCxCz;
 
 // Which channels a kernel is for: Yy takes the luminance kernel, Cx and Cz the chrominance kernel.
-#[derive(Drop)]
+#[derive(Clone, Copy)]
 pub enum Channels {
     Luminance,
     Chrominance,
 }
 
 // Pixels side by side: their first value in `cpe`, their number, and their first value in the kernel store.
-#[derive(Drop)]
+#[derive(Clone, Copy)]
 pub struct Span {
     pub at: usize,
     pub pixels: usize,

@@ -1,5 +1,7 @@
 // The squares of a block of sums, row by row, and what they are made of: lists squared, added, mirrored.
 // Pins play no part.
+#![tactic(auto)]
+
 ghost use Rattle.std.specs.Prelude.{◌≡◌, [], ◌*◌, ◌≤◌, length};
 ghost use Rattle.base.specs.Loop.{table, up_to};
 ghost use Rattle.base.specs.F64.{◌+f◌};

@@ -1,4 +1,6 @@
 // Open, on a record: everything up to the walk, and a job at its start. `prepare` is also the first half of refining.
+#![tactic(auto)]
+
 ghost use Rattle.std.specs.Prelude.{◌≡◌, length, replicate};
 ghost use Rattle.base.specs.F64.{f0};
 ghost use Rattle.input.specs.Input.{input};

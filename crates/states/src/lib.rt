@@ -1,4 +1,6 @@
 // The states of tiles as bytes of `tile_states`.
+#![tactic(auto)]
+
 ghost use Rattle.std.specs.Prelude.{◌≡◌, length, replicate};
 ghost use Rattle.job.specs.declared.TileState.TheVariants.{Waiting};
 ghost use Rattle.job.specs.Record.{byte_of, state_of, in_state};

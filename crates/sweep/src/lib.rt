@@ -1,5 +1,7 @@
 // Adding a multiple of the kernels to `cpe` round a pixel: `sweep` and `add_kernels` of dbs.rs.
 // `cpe` holds three values a pixel for the pixels of a window of the image; coordinates are the image's.
+#![tactic(auto)]
+
 ghost use Rattle.std.specs.Prelude.{◌≡◌, ◌+◌, ◌*◌, ◌<◌, ◌≤◌, length};
 ghost use Rattle.base.specs.Grid.{area};
 ghost use Rattle.base.specs.Limits.{max_side, max_pixels, max_radius, cpp_chroma, cpp_length};
@@ -15,7 +17,7 @@ use spans::{Channels, Span};
 use tiling::Tiling;
 
 // a times a kernel round (x, y).
-#[derive(Drop)]
+#[derive(Clone, Copy)]
 pub struct Source {
     pub x: usize,
     pub y: usize,

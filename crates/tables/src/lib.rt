@@ -1,5 +1,7 @@
 // What costs are read from, worked out once for a tile: the kernels at their centres and next to them, and
 // the steps to a pixel's neighbours. Nothing here reads the image.
+#![tactic(auto)]
+
 ghost use Rattle.std.specs.Prelude.{◌≡◌, ◌<◌, ◌≤◌, length};
 ghost use Rattle.base.specs.Limits.{max_side, cpp_length};
 ghost use Rattle.base.specs.Loop.{table};
@@ -16,7 +18,7 @@ use tiling::Tiling;
 
 // What is worked out once for a tile: its window, the kernels at their centres, both kernels at
 // their centre less next to it by code, and the steps to neighbours in the window and in the mask.
-#[derive(Drop)]
+#[derive(Clone, Copy)]
 pub struct Tables {
     pub w: Rect,
     pub centre: YyCxCz,

@@ -1,4 +1,6 @@
 // Take: a tile's region is copied out and the tile marked out.
+#![tactic(auto)]
+
 ghost use Rattle.std.specs.Prelude.{◌≡◌};
 ghost use Rattle.job.specs.Copy.{pixels};
 ghost use Rattle.job.specs.Words.{decode};

@@ -1,4 +1,6 @@
 // Take's tests: refusals 12, 16, 13, 3, 11 and 14.
+#![tactic(auto)]
+
 ghost use Rattle.std.specs.Prelude.{◌≡◌};
 ghost use Rattle.base.specs.Refusal.{judge};
 ghost use Rattle.job.specs.Copy.{pixels};

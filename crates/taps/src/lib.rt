@@ -1,5 +1,7 @@
 // A row of sums that grows by a row of values, correlated with a row of a kernel: the taps one by one and four
 // by four, for speed. Each sum takes its terms one by one in the order of dbs.rs.
+#![tactic(auto)]
+
 ghost use Rattle.std.specs.Prelude.{◌≡◌, suc, ◌+◌, ◌≤◌, ◌<◌, length};
 ghost use Rattle.base.specs.Loop.{table};
 ghost use Rattle.taps.specs.Taps.{at, one_tap, four_taps, tap_sum, Changed, RowFits};

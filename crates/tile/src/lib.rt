@@ -1,6 +1,8 @@
 // Refining one tile: `refine_tile` of dbs.rs, on a window of the image. The window is the whole image
 // in the plain walk and the tile's region where a worker refines a copy: one function, one proof.
 // Coordinates are the image's; `cpe` and `indices` hold the pixels of the window.
+#![tactic(auto)]
+
 ghost use Rattle.std.specs.Prelude.{◌≡◌, ◌<◌, ◌≤◌, ◌^◌, length};
 ghost use Rattle.search.specs.Shared.{shared, shared_of, Ready, Held};
 ghost use Rattle.tables.specs.Tables.{tables_of};

@@ -1,6 +1,8 @@
 // Tiles: how `dbs_refine` of dbs.rs cuts the image into tiles, phases and regions. Each function gives
 // what its definition in specs/ says, for an image within the limits. proofs/TilingLaws.antt has what the
 // definitions promise: the tiles cover the image once, and regions of one phase share no pixel.
+#![tactic(auto)]
+
 ghost use Rattle.std.specs.Prelude.{◌≡◌, ◌+◌, ◌-◌, ◌/◌, ◌^◌, ◌<◌};
 ghost use Rattle.tiling.specs.Tiling as spec;
 ghost use Rattle.tiling.specs.Tiling.{Limits};
@@ -8,7 +10,7 @@ ghost use Rattle.tiling.specs.Tiling.{Limits};
 use base::{Rect, larger, saturating_sub, smaller};
 
 // All that tiles are made of: the size of the image and the radii of both autocorrelation kernels.
-#[derive(Drop)]
+#[derive(Clone, Copy)]
 pub struct Tiling {
     pub width: usize,
     pub height: usize,

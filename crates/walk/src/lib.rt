@@ -1,4 +1,6 @@
 // The plain walk: the passes of `dbs_refine` of dbs.rs, tile by tile on the whole image.
+#![tactic(auto)]
+
 ghost use Rattle.std.specs.Prelude.{◌≡◌, ◌<◌, ◌^◌, length, set};
 ghost use Rattle.tiling.specs.Tiling.{image};
 ghost use Rattle.search.specs.Shared.{shared, Ready};
@@ -10,7 +12,7 @@ use phases::Run;
 use tiling::Tiling;
 
 // Passes run, and the error after them.
-#[derive(Drop)]
+#[derive(Clone, Copy)]
 pub struct Outcome {
     pub passes: usize,
     pub error: f64,

@@ -1,1 +1,3 @@
 // Costs, the field and the error stay numbers all through a walk: proofs/Tiles.antt and proofs/Walks.antt.
+#![tactic(auto)]
+

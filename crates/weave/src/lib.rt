@@ -1,4 +1,6 @@
 // Lines of three channels woven into rows of pixels, three values a pixel.
+#![tactic(auto)]
+
 ghost use Rattle.std.specs.Prelude.{◌≡◌, ◌*◌, ◌<◌, ◌≤◌, length};
 ghost use Rattle.base.specs.Limits.{max_side};
 ghost use Rattle.base.specs.Loop.{table};

@@ -1,4 +1,6 @@
 // The job record as the run of numbers that it is at the C boundary, read.
+#![tactic(auto)]
+
 ghost use Rattle.std.specs.Prelude.{◌≡◌, not, [], ◌∷◌, eqb, length};
 ghost use Rattle.base.specs.Refusal.{test, judge};
 ghost use Rattle.job.specs.Open.{zero_record};
@@ -13,7 +15,7 @@ use tiling::Tiling;
 pub const RECORD_LEN: usize = 12;
 
 // A call's answer with the record that it returns.
-#[derive(Drop)]
+#[derive(Clone, Copy)]
 pub struct Answer {
     pub status: Status,
     pub record: JobRecord,

@@ -1,5 +1,7 @@
 // Work: a tile refined on its copy, by the same `refine_tile` as in the plain walk. It touches no job
 // state, so that workers may run it at the same time, each on its own copy.
+#![tactic(auto)]
+
 ghost use Rattle.std.specs.Prelude.{◌≡◌};
 ghost use Rattle.progress.specs.Progress.{progress_of};
 ghost use Rattle.base.specs.F64.{f0};
@@ -14,7 +16,7 @@ use job::JobRecord;
 
 // Moves accepted and the sum of their costs, or a refusal with zeros.
 #[repr(C)]
-#[derive(Drop)]
+#[derive(Clone, Copy)]
 pub struct DbsWorked {
     pub number: u64,
     pub place: u64,

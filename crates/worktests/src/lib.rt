@@ -1,4 +1,6 @@
 // Work's tests: refusals 12, 13, 4, 17, 11 and 6.
+#![tactic(auto)]
+
 ghost use Rattle.std.specs.Prelude.{◌≡◌, not, [], ◌∷◌, ◌*◌, ltb, length};
 ghost use Rattle.base.specs.Limits.{cpp_length};
 ghost use Rattle.base.specs.Refusal.{test, judge, judge_from};

@@ -1,4 +1,6 @@
 // The run of numbers of an accepted call, written: a record as the run that it is at the C boundary.
+#![tactic(auto)]
+
 ghost use Rattle.std.specs.Prelude.{◌≡◌, length};
 ghost use Rattle.job.specs.Boundary.{words_opened, words_after};
 ghost use Rattle.job.specs.Words.{run_length, words_with, word_over, rewritten};
