@@ -24,6 +24,10 @@ four false b c e h = absurd (subst T (sym h) tt)
 
 fours : (a b c e : Bool) → T a → T b → T c → T e → ((a && b) && (c && e)) ≡ true
 fours true true true true p q r s = refl
+fours false b c e p q r s = elim p [ ]
+fours true false c e p q r s = elim q [ ]
+fours true true false e p q r s = elim r [ ]
+fours true true true false p q r s = elim s [ ]
 
 pub inside_is : (W : Rect) (x y : ℕ) → inside W x y ≡ true → Inside W x y
 unfolding inside

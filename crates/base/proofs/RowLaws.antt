@@ -70,10 +70,10 @@ module _ (n p : ℕ) (b : Bool) {P : Type 0} (m : Means b P) where
           rw (judge_pass (test b n p) ts e)
           (⊎_elim (λ f. inl (f.0, (inr f.1.0, λ q h. ⊎_elim (none e q) (f.1.1 q h)))) (λ g. inr (λ q. ⊎_elim (none e q) (g.0 q), g.1)) rest.first)
 
-lines_from : (k : ℕ) {n : ℕ} {gs : List Test} {ls : List Line} {ts : List Test} {rs : List Row} → Tells n gs ls → Rises k ls → Decides ts rs → Decides (gs ++ ts) (row n ls ∷ rs)
+lines_from : {n : ℕ} (k : ℕ) {gs : List Test} {ls : List Line} {ts : List Test} {rs : List Row} → Tells n gs ls → Rises k ls → Decides ts rs → Decides (gs ++ ts) (row n ls ∷ rs)
 unfolding Rises
 lines_from k told r rest = record { first = unfold FirstRow AnyLine in inr (λ p w. w, rest.first) }
-lines_from k {n} (tells {b = b} {p = p} {ls = ls} m t) r rest = more n p b m ls r.1 (lines_from p t r.1 rest)
+lines_from {n} k (tells {b = b} {p = p} {ls = ls} m t) r rest = more n p b m ls r.1 (lines_from p t r.1 rest)
 
 pub by_lines : {n : ℕ} {gs : List Test} {ls : List Line} {ts : List Test} {rs : List Row} → Tells n gs ls → Rises 0 ls → Decides ts rs → Decides (gs ++ ts) (row n ls ∷ rs)
 by_lines t r rest = lines_from 0 t r rest

@@ -5,7 +5,7 @@ use lib.Ieee.{Float, nan, inf, fin, up, down, binary64, lt, le, of_int, of_bits}
 use lib.Ieee.Fits.{down_pos}
 use lib.Ieee.Exact.{HasValue}
 use lib.Ieee.Back.{round_whole}
-use borrow.Author.Rules.{zero≤}
+use Prim.Native.Nat.{zero-le}
 use Rattle.base.specs.F64.{wholef}
 use Rattle.eye.specs.Constants.{truncation_max}
 use Rattle.eye.specs.Ceil.{ceil, ceil-not_below, ceil_least}
@@ -27,8 +27,8 @@ test_value (inf s) t k v b = absurd v
 test_value (fin true n d) t k v b = absurd (true≢false v.0)
 test_value (fin false n d) nan k v b = absurd b
 test_value (fin false n d) (inf false) k v b = absurd b
-test_value (fin false n d) (inf true) k v b = unfold ceil in sym (le-ltb k 0 zero≤)
-test_value (fin false n d) (fin true m e) k v b = unfold ceil in sym (le-ltb k 0 zero≤)
+test_value (fin false n d) (inf true) k v b = unfold ceil in sym (le-ltb k 0 zero-le)
+test_value (fin false n d) (fin true m e) k v b = unfold ceil in sym (le-ltb k 0 zero-le)
 test_value (fin false n d) (fin false m e) k v b =
     let whole : n * up d * down e ≡ k * down e * down d = omega (arith, ap (λ (z : ℕ). z * down e) v.1) in
     ltb_same (n * up d * down e) (m * up e * down d) k (ceil (fin false m e))
@@ -43,6 +43,6 @@ test-ceil t k h b = test_value (wholef k) t k (round_whole binary64 false k (le_
 pub ceil_bound : (t : Float) → T (le t truncation_max) → ceil t ≤ 16
 unfolding le of_bits
 ceil_bound nan h = absurd h
-ceil_bound (inf s) h = unfold ceil in zero≤
-ceil_bound (fin true m e) h = unfold ceil in zero≤
+ceil_bound (inf s) h = unfold ceil in zero-le
+ceil_bound (fin true m e) h = unfold ceil in zero-le
 ceil_bound (fin false m e) h = ceil_least m e 16 (omega (arith, cross m e 1 (lib.IntN.pos 4) h))

@@ -27,6 +27,10 @@ module _ (f : Format) (s : Bool) (a c : ℕ) (p : 0 < c) where
   value_unique (fin t m e) (fin u n g) fx fy v w =
       let same : to_bits f (fin t m e) ≡ to_bits f (fin u n g) = rw (v.0, w.0, units m e v.1, units n g w.1) in
       sym (of_bits-to_bits f (fin t m e) fx) ∙ ap (of_bits f) same ∙ of_bits-to_bits f (fin u n g) fy
+  value_unique nan y fx fy v w = elim v [ ]
+  value_unique (inf _) y fx fy v w = elim v [ ]
+  value_unique (fin t m e) nan fx fy v w = elim w [ ]
+  value_unique (fin t m e) (inf _) fx fy v w = elim w [ ]
 
 -- a float that is a format's is what its value rounds to
 module _ (f : Format) (s : Bool) (m : ℕ) where

@@ -83,7 +83,7 @@ brought_few S s t = few S (region S.tiling t) t _
 -- the tiles that are back
 pub merge_few : (S : Shared) (s : Pixels) (D : ℕ → Bool) (n : ℕ) (m : Half) → (merge S s D n m).accepted ≤ m.accepted + pixels_in S.tiling D n
 unfolding merge sum_to up_to home
-merge_few S s D n m = up_to_ind (λ i (a : Half). a.accepted ≤ m.accepted + pixels_in S.tiling D i) _ n (λ t h a q. go t a q (D t) refl) m (omega arith)
+merge_few S s D n m = up_to_ind (λ i (a : Half). a.accepted ≤ m.accepted + pixels_in S.tiling D i) (λ t a. cond (D t) (home S s t a) a) n (λ t h a q. go t a q (D t) refl) m (omega arith)
   where
     go : (t : ℕ) (a : Half) → a.accepted ≤ m.accepted + pixels_in S.tiling D t → (b : Bool) → D t ≡ b →
         (cond (D t) (home S s t a) a).accepted ≤ m.accepted + (pixels_in S.tiling D t + cond (D t) (area (tile S.tiling t)) 0)

@@ -3,7 +3,7 @@
 use Prim.Native.Nat.{ℕ, zero, suc, ◌+◌, ◌<◌}
 use native.Mathlib.Omega.{arith}
 use native.Mathlib.Decide.{ℕ_discrete}
-use mathlib.Core.Path.{◌≡◌, refl, sym, ap, ap₂, ◌∙◌}
+use mathlib.Core.Path.{◌≡◌, refl, sym, ap, ap₂, subst, ◌∙◌}
 use mathlib.Core.Logic.{◌≢◌}
 use mathlib.Core.Bool.{Bool, true, false, cond}
 use lib.Ieee.{Float, nan}
@@ -184,7 +184,7 @@ module _ (S : Shared) (p : ℕ) (D : ℕ → Bool) (due : (u : ℕ) → D u ≡ 
 
   module _ (t : ℕ) (r : Refined) (d : D t ≡ true) (reached : Walked t r) where
     whole : WholeImage S.tiling (pixels_now r)
-    whole = rw (ap (λ (m : Half). m.image) reached.half) (merge_whole S (pixels_now r₀) (half_now r₀) D t w)
+    whole = subst (λ (i : Pixels). WholeImage S.tiling i) (sym (ap (λ (m : Half). m.image) reached.half)) (merge_whole S (pixels_now r₀) (half_now r₀) D t w)
 
     -- what the tile copies on its way is what it would have copied at the start
     copied : copy_of S.tiling t (pixels_now r) ≡ copy_of S.tiling t (pixels_now r₀)

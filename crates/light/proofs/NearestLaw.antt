@@ -104,6 +104,10 @@ power (negsuc k) h =
 
 four : (a b c d : Bool) → T (a && b && c && d) → T a × T b × T c × T d
 four true true true true t = (tt, tt, tt, tt)
+four false b c d t = elim t [ ]
+four true false c d t = elim t [ ]
+four true true false d t = elim t [ ]
+four true true true false t = elim t [ ]
 
 in_units : (s : Bool) (n : ℕ) (d : ℤ) → T (fits binary64 (fin s n d)) → Units n d
 unfolding fits
@@ -147,6 +151,8 @@ module _ (v m : ℕ) (e : ℤ) (F k : ℕ) (same : m * up e * 2 ^ 1074 ≡ (2 ^ 
       let less = units_less (m * up e) (down e) (n * up d) (down d) _ _ (2 ^ 1074) (pow_pos 1074) same u.same (ltb→lt (n * up d * down e) (m * up e * down d) h) in
       mid_most l (n * up d) (down d) (n * 2 ^ u.exponent) _ (down_pos d) u.same (step_down F k n u.exponent u.small less) (le_refl _)
   none_below_of l (fin true n d) f g h = mid_most l 0 (down d) 0 _ (down_pos d) (simp zero-mul) zero-le (omega arith)
+  none_below_of l lib.Ieee.nan f g h = elim g [ ]
+  none_below_of l (lib.Ieee.inf _) f g h = elim g [ ]
 
   none_above_of : AboveL v (upper_edge F k) → (y : Float) → T (fits binary64 y) → T (finite y) → T (lt (fin false m e) y) → AboveL v (midpoint (fin false m e) y)
   unfolding lt
@@ -157,6 +163,9 @@ module _ (v m : ℕ) (e : ℤ) (F k : ℕ) (same : m * up e * 2 ^ 1074 ≡ (2 ^ 
       above_over v _ (upper_edge F k) (both_below (down e) (down d) (down_pos e) (down_pos d))
       (le_trans (mul-le-mul_right (2 * (down e * down d)) (omega arith))
       (le_of_eq (sym (midway (m * up e) (down e) (n * up d) (down d) _ _ (2 ^ 1074) same u.same)))) l
+  none_above_of l lib.Ieee.nan f g h = elim g [ ]
+  none_above_of l (lib.Ieee.inf _) f g h = elim g [ ]
+  none_above_of l (fin true n d) f g h = elim h [ ]
 
 -- ---- the test of an entry's bits b: L lies between the edges
 
@@ -182,6 +191,9 @@ is_nearest v b = positive (f64 b) && has_value b && is_below v (lower_edge (digi
 of_edges : (v F k : ℕ) (x : Float) → T (fits binary64 x) → T (positive x) → num x * 2 ^ 1074 ≡ (2 ^ 52 + F) * 2 ^ k * den x →
     BelowL v (lower_edge F k) → AboveL v (upper_edge F k) → Nearest v x
 of_edges v F k (fin false m e) f p s l u = record { is_f64 = f; is_positive = p; none_below = none_below_of v m e F k s l; none_above = none_above_of v m e F k s u }
+of_edges v F k lib.Ieee.nan f p s l u = elim p [ ]
+of_edges v F k (lib.Ieee.inf _) f p s l u = elim p [ ]
+of_edges v F k (fin true m e) f p s l u = elim p [ ]
 
 pub nearest_of : (v b : ℕ) → T (is_nearest v b) → Nearest v (f64 b)
 unfolding is_nearest
@@ -200,6 +212,12 @@ one_of : (v : ℕ) (x y : Float) → T (positive x) → T (positive y) → Neare
 one_of v (fin false m e) (fin false n d) s t p q h =
     apart v _ _ _ _ (add_comm (m * up e * down d) (n * up d * down e)) (ap (λ (z : ℕ). 2 * z) (mul_comm (down e) (down d)))
     (p.none_below (fin false n d) q.is_f64 tt h) (q.none_above (fin false m e) p.is_f64 tt h)
+one_of v lib.Ieee.nan y s t p q h = elim s [ ]
+one_of v (lib.Ieee.inf _) y s t p q h = elim s [ ]
+one_of v (fin false m e) lib.Ieee.nan s t p q h = elim t [ ]
+one_of v (fin false m e) (lib.Ieee.inf _) s t p q h = elim t [ ]
+one_of v (fin false m e) (fin true n d) s t p q h = elim t [ ]
+one_of v (fin true m e) y s t p q h = elim s [ ]
 
 pub one_nearest : (v : ℕ) (x y : Float) → Nearest v x → Nearest v y → T (lt y x) → ⊥
 one_nearest v x y p q h = one_of v x y p.is_positive q.is_positive p q h

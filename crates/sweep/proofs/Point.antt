@@ -76,6 +76,8 @@ both_true false q e = absurd (subst T (sym e) tt)
 
 true-both : (p q : Bool) → T p → T q → (p && q) ≡ true
 true-both true true s t = refl
+true-both false q s t = elim s [ ]
+true-both true false s t = elim t [ ]
 
 pub has_is : (a b i : ℕ) → has a b i ≡ true → (a ≤ i) × (i < b)
 unfolding has
