@@ -1,0 +1,8 @@
+-- `is_nan` meets its contract: without its sign a NaN's pattern is above infinity's. Assumes nothing.
+use mathlib.Core.Path.{sym}
+use lib.Ieee.{binary64}
+use lib.Ieee.Bits.{nan_bits_above}
+use Rattle.bits.proofs.is_nan.Goals as goal
+
+pub returns : goal.returns
+returns c = sym (nan_bits_above binary64 c.args.bits)
