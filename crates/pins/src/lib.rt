@@ -16,7 +16,7 @@ pub struct Pins<'a> {
 // The work, on a plain slice: whether pixel (x, y) of an image of so many columns is pinned.
 fn is_set(pinned: &[u8], width: usize, x: usize, y: usize) -> bool
     requires { MaskFits pinned.now width x y }
-    ensures { result ≡ pinned_at pinned.now width x y }
+    ensures looked_up { result ≡ pinned_at pinned.now width x y }
 {
     if pinned.len() == 0 {
         return false;

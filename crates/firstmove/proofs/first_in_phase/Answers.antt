@@ -1,0 +1,155 @@
+-- `firstmove::first_in_phase` meets its contract. While the three loops go on nothing was found, in this row, in the rows above it and in the tiles
+-- before; left with a move, they give what they would have given in the end. A row over which the walk accepts no move has none. Assumes nothing.
+use Prim.Native.Nat.{◌<◌}
+use native.Mathlib.Omega.{arith}
+use mathlib.Core.Path.{◌≡◌, refl, sym, ◌∙◌}
+use mathlib.Core.Bool.{true}
+use Rattle.base.proofs.LoopLaws.{up_to_none, from_to_none}
+use Rattle.tiling.specs.Tiling.{tiles, in_phase}
+use Rattle.tiling.proofs.TilingLaws.{tile_some}
+use Rattle.search.specs.Shared.{Shared, shared_of}
+use Rattle.firstmove.specs.FirstMove.{first_in_row}
+use Rattle.firstmove.specs.Copies.{Row}
+use Rattle.firstmove.proofs.Laws.{denied, affirmed, column, column_none, from_to_none_more, none_more, row_none, row_left, try_skips, tile_none, tile_left, phase_none, phase_left}
+use Rattle.firstmove.proofs.Copies.{strip, quiet_row}
+use Rattle.firstmove.proofs.Rooms.{strip_row, still}
+use Rattle.firstmove.proofs.first_in_phase.Goals.{After-tile_rect-q, In-rows, In-tiles, Start}
+use Rattle.firstmove.proofs.first_in_phase.Goals as goal
+
+-- ---- places: the function's start, the tile that a turn looks at, and the row and the column that it is in
+
+abbrev S : Start → Shared
+S s = shared_of s.args.g s.args.pinned.now s.args.inks.now s.args.cpp.now
+
+-- ---- the tile
+
+in_count : (c : In-tiles) → c.tiles.tile < tiles c.args.g.tiling
+in_count c = omega (arith, c.tiles-test.true, c.tile_count-tile-end.ensures)
+
+some : (c : After-tile_rect-q) → (c.tile_rect-q.result.x0 < c.tile_rect-q.result.x1) × (c.tile_rect-q.result.y0 < c.tile_rect-q.result.y1)
+some c = let i = (goal.at.After-tile_rect-q c).In-tiles in rw c.tile_rect-q.ensures (tile_some c.args.g.tiling c.tiles.tile (in_count i))
+
+of-phase : (c : After-tile_rect-q) →
+    in_phase c.args.g.tiling c.args.phase c.tiles.tile ≡ true
+of-phase c = let e = c.is_in_phase in sym e.ensures ∙ affirmed e.result c.if-not-is_in_phase.false-raw
+
+-- the row of a turn
+row : (c : In-rows) → Row c.args.g.tiling (strip c.tile_rect-q.result c.rows.y)
+row c =
+    let q = (goal.at.In-rows c).After-tile_rect-q in
+    strip_row c.args.g.tiling c.requires.ready.limits c.tiles.tile c.tile_rect-q.result c.tile_rect-q.ensures c.rows.y (some q).0 c.rows-test.true
+
+-- ---- what is left to show
+
+pub tile_count-tile-end-requires : goal.tile_count-tile-end-requires
+tile_count-tile-end-requires c = c.requires.ready.limits
+
+pub tiles-init : goal.tiles-init
+tiles-init c = (omega arith, refl, up_to_none _ _, c.requires.copy_cpe_len)
+
+pub is_in_phase-requires : goal.is_in_phase-requires
+is_in_phase-requires c = c.requires.ready.limits
+
+pub tiles-preserved-then-not-is_in_phase : goal.tiles-preserved-then-not-is_in_phase
+tiles-preserved-then-not-is_in_phase c =
+    let l = c.tiles in
+    let s = (goal.at.tiles-preserved-then-not-is_in_phase c).Start in
+    (omega (arith, c.tiles-test.true), l.invariant.1, none_more (S s) c.args.cpe.now c.args.indices.now c.args.phase l.tile l.invariant.2 (try_skips (S s) c.args.cpe.now c.args.indices.now c.args.phase l.tile (sym c.is_in_phase.ensures ∙ denied c.is_in_phase.result c.if-not-is_in_phase.true-raw)), l.invariant.3)
+
+pub tile_rect-q-requires : goal.tile_rect-q-requires
+tile_rect-q-requires c = let i = (goal.at.tile_rect-q-requires c).In-tiles in record { limits = c.requires.ready.limits; tile_bound = in_count i }
+
+pub rows-init : goal.rows-init
+rows-init c = let l = c.tiles in (omega arith, omega (arith, (some c).1), l.invariant.1, from_to_none _ _ _ _ (omega arith), l.invariant.3)
+
+pub row_moves-requires : goal.row_moves-requires
+row_moves-requires c =
+    let r = (goal.at.row_moves-requires c).In-rows in
+    record { ready = c.requires.ready; row = row r; copy_cpe_len = c.rows.invariant.4 }
+
+pub rows-preserved-then-not-row_moves : goal.rows-preserved-then-not-row_moves
+rows-preserved-then-not-row_moves c =
+    let r = (goal.at.rows-preserved-then-not-row_moves c).In-rows in
+    let k = c.rows in
+    let s = (goal.at.rows-preserved-then-not-row_moves c).Start in
+    let none = quiet_row (S s) c.args.cpe.now c.args.indices.now c.tile_rect-q.result k.y (row r).part (still _ c.row_moves.result c.row_moves.ensures c.if-not-row_moves.true-raw) in (
+      omega (arith, k.invariant.0),
+      omega (arith, c.rows-test.true),
+      k.invariant.2,
+      from_to_none_more (first_in_row (S s) c.args.cpe.now c.args.indices.now c.tile_rect-q.result) _ k.y k.invariant.0 k.invariant.3 none,
+      (c.row_moves.auto.copy_cpe ∙ k.invariant.4.0, c.row_moves.auto.copy_indices ∙ k.invariant.4.1),
+    )
+
+pub columns-init : goal.columns-init
+columns-init c =
+    let k = c.rows in
+    (omega arith, omega (arith, (some (goal.at.columns-init c).After-tile_rect-q).0), k.invariant.2, from_to_none _ _ _ _ (omega arith), (c.row_moves.auto.copy_cpe ∙ k.invariant.4.0, c.row_moves.auto.copy_indices ∙ k.invariant.4.1))
+
+pub move_at-here-requires : goal.move_at-here-requires
+move_at-here-requires c =
+    let r = (goal.at.move_at-here-requires c).In-rows in
+    let p = (row r).part in
+    record { ready = c.requires.ready; x_lt_width = (omega (arith, c.columns-test.true, p.in_x), omega (arith, p.in_y)); copy_cpe_len = c.columns.invariant.4 }
+
+pub overflow_step-x : goal.overflow_step-x
+overflow_step-x c =
+    let r = (goal.at.overflow_step-x c).In-rows in
+    omega (arith, c.columns-test.true, (row r).part.in_x, c.requires.ready.limits.width_limit)
+
+pub columns-preserved : goal.columns-preserved
+columns-preserved c =
+    let l = c.columns in
+    let s = (goal.at.columns-preserved c).Start in
+    let here = column_none (S s) c.args.cpe.now c.args.indices.now l.x c.rows.y c.move_at-here.result c.move_at-here.ensures (sym c.is_move.ensures ∙ c.if-is_move.false) in (
+      omega (arith, l.invariant.0),
+      omega (arith, c.columns-test.true),
+      l.invariant.2,
+      from_to_none_more (column (S s) c.args.cpe.now c.args.indices.now c.rows.y) _ l.x l.invariant.0 l.invariant.3 here,
+      (c.move_at-here.auto.copy_cpe ∙ l.invariant.4.0, c.move_at-here.auto.copy_indices ∙ l.invariant.4.1),
+    )
+
+pub rows-preserved : goal.rows-preserved
+rows-preserved c =
+    let l = c.columns in
+    let k = c.rows in
+    let s = (goal.at.rows-preserved c).Start in
+    (omega (arith, k.invariant.0), omega (arith, c.rows-test.true), l.invariant.2, from_to_none_more (first_in_row (S s) c.args.cpe.now c.args.indices.now c.tile_rect-q.result) _ k.y k.invariant.0 k.invariant.3 (row_none (S s) c.args.cpe.now c.args.indices.now c.tile_rect-q.result k.y l.x (omega (arith, l.invariant.1, c.columns-test.false)) l.invariant.3), l.invariant.4)
+
+pub tiles-preserved : goal.tiles-preserved
+tiles-preserved c =
+    let k = c.rows in
+    let q = (goal.at.tiles-preserved c).After-tile_rect-q in
+    let l = c.tiles in
+    let s = (goal.at.tiles-preserved c).Start in
+    (omega (arith, c.tiles-test.true), k.invariant.2, none_more (S s) c.args.cpe.now c.args.indices.now c.args.phase l.tile l.invariant.2 (tile_none (S s) c.args.cpe.now c.args.indices.now c.args.phase l.tile c.tile_rect-q.result c.tile_rect-q.ensures (of-phase q) k.y (omega (arith, k.invariant.1, c.rows-test.false)) k.invariant.3), k.invariant.4)
+
+pub shape_of-copy_cpe-after-tiles : goal.shape_of-copy_cpe-after-tiles
+shape_of-copy_cpe-after-tiles c = c.tiles.invariant.3.0 ∙ sym c.requires.copy_cpe_len.0
+
+pub shape_of-copy_indices-after-tiles : goal.shape_of-copy_indices-after-tiles
+shape_of-copy_indices-after-tiles c = c.tiles.invariant.3.1 ∙ sym c.requires.copy_cpe_len.1
+
+pub returns-after-tiles : goal.returns-after-tiles
+returns-after-tiles c =
+    let l = c.tiles in
+    let s = (goal.at.returns-after-tiles c).Start in
+    l.invariant.1 ∙ sym (phase_none (S s) c.args.cpe.now c.args.indices.now c.args.phase l.tile (omega (arith, l.invariant.0, c.tile_count-tile-end.ensures, c.tiles-test.false)) l.invariant.2)
+
+pub shape_of-copy_cpe-then-is_move : goal.shape_of-copy_cpe-then-is_move
+shape_of-copy_cpe-then-is_move c = c.move_at-here.auto.copy_cpe ∙ c.columns.invariant.4.0 ∙ sym c.requires.copy_cpe_len.0
+
+pub shape_of-copy_indices-then-is_move : goal.shape_of-copy_indices-then-is_move
+shape_of-copy_indices-then-is_move c = c.move_at-here.auto.copy_indices ∙ c.columns.invariant.4.1 ∙ sym c.requires.copy_cpe_len.1
+
+pub returns-then-is_move : goal.returns-then-is_move
+returns-then-is_move c =
+    let x = c.columns in
+    let y = c.rows in
+    let q = (goal.at.returns-then-is_move c).After-tile_rect-q in
+    let t = (goal.at.returns-then-is_move c).In-tiles in
+    let l = c.tiles in
+    let s = (goal.at.returns-then-is_move c).Start in
+    let moves = sym c.is_move.ensures ∙ c.if-is_move.true in
+    let row = row_left (S s) c.args.cpe.now c.args.indices.now c.tile_rect-q.result y.y x.x c.move_at-here.result x.invariant.0 c.columns-test.true x.invariant.3 c.move_at-here.ensures moves in
+    let tile = tile_left (S s) c.args.cpe.now c.args.indices.now c.args.phase l.tile c.tile_rect-q.result c.tile_rect-q.ensures (of-phase q) y.y c.move_at-here.result y.invariant.0 c.rows-test.true y.invariant.3 row moves in
+    sym (phase_left (S s) c.args.cpe.now c.args.indices.now c.args.phase l.tile c.move_at-here.result (in_count t) l.invariant.2 tile moves)

@@ -1,0 +1,79 @@
+-- `firstmove::pixel_move` meets its contract: the walk over the pixel, on a copy, tells its move. Assumes nothing.
+use Prim.Native.Nat.{◌*◌, ◌≤◌}
+use native.Mathlib.Omega.{arith}
+use mathlib.Core.Path.{◌≡◌, ap, ◌∙◌}
+use lib.ListN.{length}
+use Rattle.base.specs.declared.Rect.{Rect}
+use Rattle.base.specs.Grid.{area}
+use Rattle.base.specs.Limits.{max_pixels}
+use Rattle.search.specs.Shared.{Shared, shared_of, index_at}
+use Rattle.firstmove.specs.Copies.{count_of}
+use Rattle.firstmove.proofs.Copies.{holds_as}
+use Rattle.firstmove.proofs.Rooms.{room, area_is, pixel_row, pixel_fits, image_index, stays_as, moves_as}
+use Rattle.firstmove.proofs.pixel_move.Goals.{After-fill_copy, Start}
+use Rattle.firstmove.proofs.pixel_move.Goals as goal
+
+abbrev S : Start → Shared
+S s = shared_of s.args.g s.args.pinned.now s.args.inks.now s.args.cpp.now
+
+-- the window's pixels
+few : (s : Start) → area s.args.w ≤ max_pixels
+few s = omega (arith, area_is s.args.w, room s.args.g.tiling s.args.q (pixel_row s.args.g.tiling s.args.q s.requires.one_pixel.0) s.args.w s.requires.one_pixel.1)
+
+values : (f : After-fill_copy) → length f.fill_copy.new.copy_cpe ≡ 3 * area f.args.w
+values f = f.fill_copy.auto.copy_cpe ∙ f.requires.copy_cpe_len.0
+
+indices : (f : After-fill_copy) → length f.fill_copy.new.copy_indices ≡ area f.args.w
+indices f = f.fill_copy.auto.copy_indices ∙ f.requires.copy_cpe_len.1
+
+pub index_at-k-requires : goal.index_at-k-requires
+index_at-k-requires c =
+    let s = (goal.at.index_at-k-requires c).Start in
+    let both = image_index (S s) c.args.cpe.now c.args.indices.now (length c.args.cpe.now) c.args.q c.requires.one_pixel.0 c.requires.ready _ c.image_rect.ensures in
+    record { inside = both.0; x1_le_max_side = both.1.0; indices_len = both.1.1 }
+
+pub fill_copy-requires : goal.fill_copy-requires
+fill_copy-requires c =
+    let s = (goal.at.fill_copy-requires c).Start in
+    let a = c.args in
+    record { holds = holds_as (S s) a.cpe.now a.indices.now (length a.cpe.now) a.q a.w c.requires.one_pixel.1 (pixel_row a.g.tiling a.q c.requires.one_pixel.0).part c.requires.ready; cpe_len = (c.requires.ready.cpe, c.requires.ready.indices_room); copy_cpe_len = c.requires.copy_cpe_len }
+
+pub count_ink-ink-requires : goal.count_ink-ink-requires
+count_ink-ink-requires c =
+    let f = (goal.at.count_ink-ink-requires c).After-fill_copy in
+    omega (arith, few (goal.at.count_ink-ink-requires c).Start, indices f)
+
+pub walk_copy-p-requires : goal.walk_copy-p-requires
+walk_copy-p-requires c =
+    let f = (goal.at.walk_copy-p-requires c).After-fill_copy in
+    record { ready = c.requires.ready; part = ((pixel_row c.args.g.tiling c.args.q c.requires.one_pixel.0).part, c.requires.one_pixel.1); copy_cpe_len = (values f, indices f) }
+
+pub returns-then-p-eq0 : goal.returns-then-p-eq0
+returns-then-p-eq0 c =
+    let s = (goal.at.returns-then-p-eq0 c).Start in
+    stays_as (S s) c.args.cpe.now c.args.indices.now (length c.args.cpe.now) c.args.q c.requires.one_pixel.0 c.requires.ready _ _ _ c.walk_copy-p.ensures c.if-p-eq0.true
+
+pub count_ink-requires : goal.count_ink-requires
+count_ink-requires c =
+    omega (arith, few (goal.at.count_ink-requires c).Start, indices (goal.at.count_ink-requires c).After-fill_copy, c.walk_copy-p.auto.copy_indices)
+
+pub overflow_mul-q : goal.overflow_mul-q
+overflow_mul-q c =
+    let s = (goal.at.overflow_mul-q c).Start in
+    omega (arith, pixel_fits (S s) c.args.cpe.now c.args.indices.now (length c.args.cpe.now) c.args.q c.requires.one_pixel.0 c.requires.ready)
+
+pub overflow_add-q : goal.overflow_add-q
+overflow_add-q c =
+    let s = (goal.at.overflow_add-q c).Start in
+    omega (arith, pixel_fits (S s) c.args.cpe.now c.args.indices.now (length c.args.cpe.now) c.args.q c.requires.one_pixel.0 c.requires.ready)
+
+pub returns : goal.returns
+returns c =
+    let s = (goal.at.returns c).Start in
+    moves_as (S s) c.args.cpe.now c.args.indices.now (length c.args.cpe.now) c.args.q c.requires.one_pixel.0 c.requires.ready _ _ _ c.walk_copy-p.ensures
+    c.args.w c.requires.one_pixel.1 c.index_at-k.result c.count_ink-ink.result c.count_ink.result c.told.result
+    (c.index_at-k.ensures ∙ ap (λ (I : Rect). index_at I c.args.indices.now c.args.q.x0 c.args.q.y0) c.image_rect.ensures)
+    (c.count_ink-ink.ensures ∙ ap (count_of c.index_at-k.result) c.fill_copy.ensures.copy_indices_after)
+    c.count_ink.ensures
+    c.told.ensures
+    c.if-p-eq0.false
