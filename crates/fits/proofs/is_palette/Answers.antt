@@ -7,7 +7,7 @@ use Rattle.fits.proofs.is_palette.Goals as goal
 pub returns-then-palette_len-eq0 : goal.returns-then-palette_len-eq0
 returns-then-palette_len-eq0 c =
     let whole : c.args.palette_len % 3 ≡ 0 = c.if-palette_len-eq0.true in
-    rw (c.is_Within.ensures, eq-eqb _ _ whole)
+    rw (c.is_within.ensures, eq-eqb _ _ whole)
 
 pub returns-else-palette_len-eq0 : goal.returns-else-palette_len-eq0
 returns-else-palette_len-eq0 c = rw (ne_eqb _ _ c.if-palette_len-eq0.false)

@@ -32,15 +32,15 @@ loop-i-preserved c = go (ltb (Byte c) n) refl
     n : ℕ
     n = c.args.n
 
-    go : (b : Bool) → ltb (Byte c) n ≡ b → (min (At c + 1) c.nearer.result ≤ first_not_below n (Bytes c)) × ((first_not_below n (Bytes c) ≤ c.nearer.result) × (c.nearer.result ≤ length (Bytes c)))
+    go : (b : Bool) → ltb (Byte c) n ≡ b → (min (At c + 1) c.nearer-place.result ≤ first_not_below n (Bytes c)) × ((first_not_below n (Bytes c) ≤ c.nearer-place.result) × (c.nearer-place.result ≤ length (Bytes c)))
     go false e =
         let high = ltb-false (Byte c) n e in
-        let r = c.nearer.ensures.0 high in
+        let r = c.nearer-place.ensures.0 high in
         let p = found n (Bytes c) (At c) (omega arith) (omega arith) high in
         (omega arith, (omega arith, omega arith))
     go true e =
         let low = ltb-true (Byte c) n e in
-        let r = c.nearer.ensures.1 low in
+        let r = c.nearer-place.ensures.1 low in
         let p = goes_on n (Bytes c) (At c) (omega arith) (omega arith) low in
         (omega arith, (omega arith, omega arith))
 

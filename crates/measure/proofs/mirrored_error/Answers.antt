@@ -1,25 +1,18 @@
 -- `mirrored_error` meets its contract: a blur's values from last to first give the same error. Assumes nothing.
-use mathlib.Core.List.{[]}
-use native.Mathlib.Omega.{arith}
-use lib.ListN.{length}
+use Rattle.std.proofs.Common.{[], length, arith}
 use Rattle.error.specs.Error.{scene}
 use Rattle.measure.proofs.BlockLaws.{seen_through}
-use Rattle.measure.proofs.mirrored_error.Goals.{After-mirror}
 use Rattle.measure.proofs.mirrored_error.Goals as goal
-
-abbrev lent : tie.After-blur-error-arg4 → After-mirror
-lent c =
-    let earlier-2 = c.before.before.before.before.before in
-    let earlier = earlier-2.before in
-    earlier
 
 pub blur_error-requires : goal.blur_error-requires
 blur_error-requires c =
-    let m = lent c in
-    let s = start m in
-    let f = s.pre.1.0 in
-    let p = s.pre.1.1.1 in
-    record { lut_value = s.pre.0; view_fits = record { scene = f.scene; most = f.most; square = omega (arith, m.mirror.kept, s.pre.1.1.0); errors = p.0; block = p.1 }; sums_len = p.2 }
+    let f = c.requires.frame_fits in
+    let p = c.requires.line_len in
+    record {
+      lut_value = c.requires.lut_value;
+      view_fits = record { scene = f.scene; most = f.most; square = omega (arith, c.mirror.auto, c.requires.taps_len); errors = p.0; block = p.1 };
+      sums_len = p.2;
+    }
 
 pub returns : goal.returns
 returns c =

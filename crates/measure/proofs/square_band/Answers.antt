@@ -56,7 +56,7 @@ block_at-b-requires c =
 pub square_block-requires : goal.square_block-requires
 square_block-requires c =
     let b = (goal.at.square_block-requires c).After-block_at-b in
-    record { lut_value = c.requires.lut_value; square_fits = (next b).ranges }
+    record { lut_value = c.requires.lut_value; square_fits = (next b).fits }
 
 pub overflow_add-x : goal.overflow_add-x
 overflow_add-x c =

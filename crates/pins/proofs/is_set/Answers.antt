@@ -7,7 +7,7 @@ use Rattle.pins.proofs.is_set.Goals as goal
 
 pub returns-then-pinned-eq0 : goal.returns-then-pinned-eq0
 unfolding pinned_at
-returns-then-pinned-eq0 c = simp (eq-eqb _ _ c.if-pinned-eq0.true)
+returns-then-pinned-eq0 c = record { looked_up = simp (eq-eqb _ _ c.if-pinned-eq0.true) }
 
 pub overflow_mul-i : goal.overflow_mul-i
 overflow_mul-i c = omega (arith, image_product c.args.y c.args.width (omega (arith, c.requires.height_limit)) c.requires.width_limit)
@@ -21,4 +21,4 @@ bounds-pinned-i c = c.requires.byte (omega arith)
 
 pub returns : goal.returns
 unfolding pinned_at
-returns c = simp (ne_eqb _ _ c.if-pinned-eq0.false)
+returns c = record { looked_up = simp (ne_eqb _ _ c.if-pinned-eq0.false) }
