@@ -30,12 +30,16 @@ use Rattle.job.specs.Take.{take_of}
 use Rattle.job.specs.Work.{Worked, work_of}
 use Rattle.job.specs.PutBack.{with_progress, put_back_of}
 use Rattle.job.specs.Close.{with_deltas, released, next_record, next_with, close_of}
-use Rattle.job.specs.Valid.{ValidTurn, ValidTake, ValidPutBack, ValidRecall, ValidClose}
+use Rattle.job.specs.Valid.{ValidTurn, ValidTile, ValidTake, ValidPutBack, ValidRecall, ValidClose}
 use Rattle.job.specs.Claim.{Same}
 use Rattle.job.proofs.Bools.{both}
 use Rattle.job.proofs.StateLaws.{is_back, back_byte}
 use Rattle.job.proofs.Merge.{Half, WholeImage, brought, home, merge, merge_cong, merge_keeps, merge_whole, merge_copy, merge_insert, join_deltas, join_deltas_cong, pixels_at, pixels_now, half_now, walk_all, walk_reached}
 use Rattle.job.proofs.Answers.{work_answers}
+
+-- what a tile's turn asks for, of what take and put back ask for
+turn_in : {r : JobRecord} {t : ℕ} {image : Pixels} {states : List ℕ} → ValidTile r t image states → ValidTurn r t states
+turn_in v = record { valid = v.valid; unfinished = v.unfinished; tile_has = v.tile_has; due = v.due; states_length = v.states_length }
 
 -- what holds of both sides of a choice
 either : {A B : Type 0} {x y : A} {z : B} (f : A → B) (b : Bool) → f x ≡ z → f y ≡ z → f (cond b x y) ≡ z
@@ -240,7 +244,7 @@ module _ (plan : Plan) (pinned : List ℕ) (inks cpp : List Float) where
       take_keeps = away_keeps t 1 g (omega (arith, v.waiting)) (omega arith) _ (λ u h i e. outs u h i e (ℕ_discrete u t))
         where
           g : Given t
-          g = given t v.on.turn
+          g = given t (turn_in v.on)
 
           outs : (u : ℕ) → u < tiles T → in_phase T w.phase u ≡ true → get_or (set J.states t 1) u 0 ≡ 1 → Dec (u ≡ t) →
               cond (eqb u t) (copy_of J.rec.plan.tiling t J.image) (J.last u) ≡ copy_of T u start
@@ -278,7 +282,7 @@ module _ (plan : Plan) (pinned : List ℕ) (inks cpp : List Float) where
       module _ (brings : refined_copy S t (J.last t) ≡ made) where
         is_brought : made ≡ brought S start t
         unfolding brought
-        is_brought = let g = given t v.on.turn in sym brings ∙ ap (refined_copy S t) (I.out t g.low g.here v.out)
+        is_brought = let g = given t (turn_in v.on) in sym brings ∙ ap (refined_copy S t) (I.out t g.low g.here v.out)
 
         back_half : half_of (tile_back J t made) ≡ home S start t (half_of J)
         unfolding tile_back with_progress home
@@ -305,7 +309,7 @@ module _ (plan : Plan) (pinned : List ℕ) (inks cpp : List Float) where
         }
           where
             g : Given t
-            g = given t v.on.turn
+            g = given t (turn_in v.on)
 
             away : is_home T w.phase J.states t ≡ false
             away = home_away T w.phase J.states t (omega (arith, v.out))

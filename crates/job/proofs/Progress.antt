@@ -40,7 +40,7 @@ use Rattle.job.specs.Close.{is_missing}
 use Rattle.job.specs.Valid.{ValidRecord, ValidTurn, ValidTile, ValidTake, ValidWork, ValidPutBack, ValidRecall, ValidClose}
 use Rattle.job.specs.Runs.{Call, Job, rec, ran, answer, after, is_close, closes_after}
 use Rattle.job.specs.Claim.{Own, WorkMade, Brings, Fair, phases}
-use Rattle.job.specs.Companions.{missing, sum_to, AllAccepted, closes_in, closes_last, Closing, forgotten, calls_for, sum_due, calls_left, tiles_due, Closes, Progress, Doubles}
+use Rattle.job.specs.Companions.{missing, sum_to, AllAccepted, closes_in, closes_last, Closing, ClosingLast, forgotten, calls_for, sum_due, calls_left, tiles_due, Closes, Progress, ProgressAnew, Doubles}
 use Rattle.job.proofs.StateLaws.{is_back, by_tests, back_byte}
 use Rattle.job.proofs.Merge.{brought, pixels_now}
 use Rattle.job.proofs.Answers.{take_answers, work_answers, put_back_answers, recall_answers, close_answers}
@@ -64,7 +64,7 @@ not_close m J c e = rw e (go (is_accepted (answer J c)))
     go true = refl
     go false = refl
 
-before : (words : List ℕ) (O : Opening) (J : Job) (c : Call) (n : ℕ) → answer J c ≡ accepted → Own c → Brings words O J c → is_close c ≡ false → Closing words O (after J c) n → Closing words O J (n + 1)
+before : (words : List ℕ) (O : Opening) (J : Job) (c : Call) (n : ℕ) → answer J c ≡ accepted → Own c → Brings words O J c → is_close c ≡ false → ClosingLast words O (after J c) n → ClosingLast words O J (n + 1)
 unfolding Fair AllAccepted closes_in closes_last
 before words O J c n e mine brings no-close k = record {
   calls = c ∷ k.calls;
@@ -75,7 +75,7 @@ before words O J c n e mine brings no-close k = record {
   few = omega (arith, k.few);
 }
 
-at_most : {words : List ℕ} {O : Opening} {J : Job} {a : ℕ} (b : ℕ) → a ≤ b → Closing words O J a → Closing words O J b
+at_most : {words : List ℕ} {O : Opening} {J : Job} {a : ℕ} (b : ℕ) → a ≤ b → ClosingLast words O J a → ClosingLast words O J b
 at_most b h k = record { calls = k.calls; fair = k.fair; accepted = k.accepted; closed = k.closed; last = k.last; few = omega (arith, h, k.few) }
 
 -- ---- tiles not yet back
@@ -220,7 +220,11 @@ module _ (words : List ℕ) (O : Opening) (ok : (open_run words O).status ≡ ac
     valid_tile =
         let whole = image_whole (plan_of O) I.pinned (inks_of I) (cpp_of I O.cpp) (stage J) w H in
         record {
-          turn = valid_turn;
+          valid = valid_turn.valid;
+          unfinished = valid_turn.unfinished;
+          tile_has = valid_turn.tile_has;
+          due = valid_turn.due;
+          states_length = valid_turn.states_length;
           indices_length = whole.indices ∙ image_area T ∙ sym pixels_of_lem;
           cpe_length = whole.cpe ∙ ap (λ n. 3 * n) (image_area T ∙ sym pixels_of_lem);
         }
@@ -347,7 +351,7 @@ module _ (words : List ℕ) (O : Opening) (ok : (open_run words O).status ≡ ac
           d = doubles_of O m (stage J) H
 
   -- all back: the phase can be closed
-  all_back : ((t : ℕ) → t < tiles T → in_phase T w.phase t ≡ true → 1 < get_or J.states t 0) → Closing words O J 1
+  all_back : ((t : ℕ) → t < tiles T → in_phase T w.phase t ≡ true → 1 < get_or J.states t 0) → ClosingLast words O J 1
   unfolding Fair AllAccepted closes_in closes_last closes_after Own Brings is_close
   all_back back = record {
     calls = closing ∷ [];
@@ -421,8 +425,8 @@ module _ (words : List ℕ) (O : Opening) (ok : (open_run words O).status ≡ ac
     running : (rec J).finished ≡ false
     count : missing_at T' phase J.states ≡ k
 
-  module _ (k : ℕ) (rest : (J : Job) → Left k J → Closing words O J (2 * k + 1)) (J : Job) (L : Left (suc k) J) (t : ℕ) (low : t < tiles T') (here : in_phase T' phase t ≡ true) where
-    from_out : get_or J.states t 0 ≡ 1 → Closing words O J (2 * k + 1 + 1)
+  module _ (k : ℕ) (rest : (J : Job) → Left k J → ClosingLast words O J (2 * k + 1)) (J : Job) (L : Left (suc k) J) (t : ℕ) (low : t < tiles T') (here : in_phase T' phase t ≡ true) where
+    from_out : get_or J.states t 0 ≡ 1 → ClosingLast words O J (2 * k + 1 + 1)
     unfolding Own Brings is_close tile_back with_progress
     from_out out =
         let H = L.mid in
@@ -438,8 +442,8 @@ module _ (words : List ℕ) (O : Opening) (ok : (open_run words O).status ≡ ac
         before words O J c (2 * k + 1) (put_ok words O ok m J H run t low here out) (refl, refl, refl, refl) (worked words O ok m J H run t low here out) refl (rest (after J c) next)
 
   -- a tile that is waiting is taken, and is then out
-  module _ (k : ℕ) (rest : (J : Job) → Left k J → Closing words O J (2 * k + 1)) (J : Job) (L : Left (suc k) J) (t : ℕ) (low : t < tiles T') (here : in_phase T' phase t ≡ true) where
-    from_waiting : get_or J.states t 0 ≡ 0 → Closing words O J (2 * k + 1 + 1 + 1)
+  module _ (k : ℕ) (rest : (J : Job) → Left k J → ClosingLast words O J (2 * k + 1)) (J : Job) (L : Left (suc k) J) (t : ℕ) (low : t < tiles T') (here : in_phase T' phase t ≡ true) where
+    from_waiting : get_or J.states t 0 ≡ 0 → ClosingLast words O J (2 * k + 1 + 1 + 1)
     unfolding Own Brings is_close took_tile
     from_waiting waiting =
         let H = L.mid in
@@ -455,14 +459,14 @@ module _ (words : List ℕ) (O : Opening) (ok : (open_run words O).status ≡ ac
         before words O J c (2 * k + 1 + 1) (take_ok words O ok m J H run t low here waiting) (refl, refl, refl) tt refl
         (from_out k rest (after J c) next t low here (ap (λ (q : Stage). get_or q.states t 0) there ∙ get_or-set_same J.states t 1 0 room))
 
-    from_away : get_or J.states t 0 ≤ 1 → Closing words O J (2 * suc k + 1)
+    from_away : get_or J.states t 0 ≤ 1 → ClosingLast words O J (2 * suc k + 1)
     from_away away = go (ℕ_discrete (get_or J.states t 0) 0)
       where
-        go : Dec (get_or J.states t 0 ≡ 0) → Closing words O J (2 * suc k + 1)
+        go : Dec (get_or J.states t 0 ≡ 0) → ClosingLast words O J (2 * suc k + 1)
         go (yes q) = at_most _ (omega arith) (from_waiting q)
         go (no q) = at_most _ (omega arith) (from_out k rest J L t low here (omega (arith, away, q)))
 
-  all_closed : (k : ℕ) (J : Job) → Left k J → Closing words O J (2 * k + 1)
+  all_closed : (k : ℕ) (J : Job) → Left k J → ClosingLast words O J (2 * k + 1)
   all_closed zero J L =
       at_most _ (omega arith) (all_back words O ok m J L.mid L.running (λ t l i.
       ltb-true 1 (get_or J.states t 0) (sym (back_byte J.states t) ∙ is_back_lem _ _ i (sum_none (away_at T' phase J.states) (tiles T') L.count t l))))
@@ -478,8 +482,8 @@ module _ (words : List ℕ) (O : Opening) (ok : (open_run words O).status ≡ ac
     out : out_in T' phase J.states ≡ k
 
   -- a recall reads no copy
-  module _ (k n : ℕ) (rest : (J : Job) → Lost k n J → Closing words O (forgotten J) (k + (2 * n + 1))) (J : Job) (L : Lost (suc k) n J) (t : ℕ) (low : t < tiles T') (here : in_phase T' phase t ≡ true) where
-    from_lost : get_or J.states t 0 ≡ 1 → Closing words O (forgotten J) (k + (2 * n + 1) + 1)
+  module _ (k n : ℕ) (rest : (J : Job) → Lost k n J → ClosingLast words O (forgotten J) (k + (2 * n + 1))) (J : Job) (L : Lost (suc k) n J) (t : ℕ) (low : t < tiles T') (here : in_phase T' phase t ≡ true) where
+    from_lost : get_or J.states t 0 ≡ 1 → ClosingLast words O (forgotten J) (k + (2 * n + 1) + 1)
     unfolding Own Brings is_close tile_waits forgotten ran
     from_lost out =
         let H = L.left.mid in
@@ -497,7 +501,7 @@ module _ (words : List ℕ) (O : Opening) (ok : (open_run words O).status ≡ ac
         } in
         before words O (forgotten J) (recalling t) (k + (2 * n + 1)) (recall_ok words O ok m J H run t low here out) refl tt refl (rest (after J (recalling t)) next)
 
-  all_recalled : (k n : ℕ) (J : Job) → Lost k n J → Closing words O (forgotten J) (k + (2 * n + 1))
+  all_recalled : (k n : ℕ) (J : Job) → Lost k n J → ClosingLast words O (forgotten J) (k + (2 * n + 1))
   unfolding forgotten
   all_recalled zero n J L =
       let none : (t : ℕ) → t < tiles T' → in_phase T' phase t ≡ true → get_or J.states t 0 ≢ 1 = λ t l i e. not_out t l i e (sum_none (out_at T' phase J.states) (tiles T') L.out t l) in
@@ -512,8 +516,8 @@ module _ (words : List ℕ) (O : Opening) (ok : (open_run words O).status ≡ ac
       let a = is_out (in_phase T' phase t) (eqb (get_or J.states t 0) 1) some.2 in
       at_most _ (omega arith) (from_lost k n (all_recalled k n) J L t some.1 a.0 (eqb-true (get_or J.states t 0) 1 a.1))
 
-pub progress : Progress
-progress words O J r running =
+pub progress_anew : ProgressAnew
+progress_anew words O J r running =
     let k = reached_mid words O J r in
     let m = k.0 in
     let T = tiling_of O.input in
@@ -526,3 +530,9 @@ progress words O J r running =
       anew = at_most _ (omega (arith, calls_are words O r.opened m J k.1 running)) (all_recalled words O r.opened m out n J lost);
       held = rw (missing_is words O r.opened m J k.1 running) (all_closed words O r.opened m n J left);
     }
+
+-- where no copy is lost
+pub progress : Progress
+progress words O J r running =
+    let k = (progress_anew words O J r running).held in
+    record { calls = k.calls; fair = k.fair; accepted = k.accepted; closed = k.closed; few = k.few }

@@ -44,11 +44,11 @@ module _ (words : List ℕ) (t : ℕ) (image : Pixels) (states : List ℕ) (copy
   out = set states t 1
 
   recalls : (recall_run words t out).status ≡ accepted
-  recalls = (demand1.recalls words t out).accepts.1 (run, record { turn = turn; out = get_or-set_same states t 1 0 (omega (arith, valid.on.turn.tile_has, valid.on.turn.states_length)) })
+  recalls = (demand1.recalls words t out).accepts.1 (run, record { turn = turn; out = get_or-set_same states t 1 0 (omega (arith, valid.on.tile_has, valid.on.states_length)) })
     where
       turn : ValidTurn (decode words) t out
       turn =
-          let v = valid.on.turn in
+          let v = valid.on in
           record { valid = v.valid; unfinished = v.unfinished; tile_has = v.tile_has; due = v.due; states_length = length-set states t 1 ∙ v.states_length }
 
   waits_again : (recall_run words t out).states ≡ states

@@ -144,7 +144,9 @@ module _ (r : JobRecord) (t : ℕ) (image : Pixels) (states : List ℕ) where
   -- the tests that take and put back have in common
   tile_of : ValidRecord r → r.finished ≡ false → not (is_due r t) ≡ false → not (eqb (length image.indices) (pixels_of r)) ≡ false → not (eqb (length image.cpe) (3 * pixels_of r)) ≡ false →
       not (eqb (length states) (tiles r.plan.tiling)) ≡ false → ValidTile r t image states
-  tile_of v f due indices cpe bytes = record { turn = turn_of r t states v f due bytes; indices_length = equal_of _ _ indices; cpe_length = equal_of _ _ cpe }
+  tile_of v f due indices cpe bytes =
+      let d = due_of r t due in
+      record { valid = v; unfinished = f; tile_has = d.0; due = d.1; indices_length = equal_of _ _ indices; cpe_length = equal_of _ _ cpe; states_length = equal_of _ _ bytes }
 
   module _ (copy : Pixels) where
     pub take_passes : Passes (take_tests r t image states copy) ↔ ValidTake r t image states copy
@@ -159,14 +161,14 @@ module _ (r : JobRecord) (t : ℕ) (image : Pixels) (states : List ℕ) where
             waiting = equal_of _ _ (rw (waiting_byte states t) at c.1.1.1.1.1.1.1.0);
           },
       λ v.
-          let tile = of_due r t v.on.turn.tile_has v.on.turn.due in
+          let tile = of_due r t v.on.tile_has v.on.due in
           let indices = of_equal (length image.indices) (pixels_of r) v.on.indices_length in
           let cpe = of_equal (length image.cpe) (3 * pixels_of r) v.on.cpe_length in
-          let bytes = of_equal (length states) (tiles r.plan.tiling) v.on.turn.states_length in
+          let bytes = of_equal (length states) (tiles r.plan.tiling) v.on.states_length in
           let copy-cpe = of_equal (length copy.cpe) (3 * area (region r.plan.tiling t)) v.room.cpe_length in
           let copy-indices = of_equal (length copy.indices) (area (region r.plan.tiling t)) v.room.indices_length in
           let waits : not (is_in Waiting states t) ≡ false = rw (waiting_byte states t) (of_equal (get_or states t 0) 0 v.waiting) in
-          (passes_append (record_tests r) _).1 (of_record r v.on.turn.valid, (v.on.turn.unfinished, (tile, (indices, (cpe, (bytes, (copy-cpe, (copy-indices, (waits, tt))))))))),
+          (passes_append (record_tests r) _).1 (of_record r v.on.valid, (v.on.unfinished, (tile, (indices, (cpe, (bytes, (copy-cpe, (copy-indices, (waits, tt))))))))),
     )
 
   module _ (deltas : List Float) (made : State) where
@@ -203,16 +205,16 @@ module _ (r : JobRecord) (t : ℕ) (image : Pixels) (states : List ℕ) where
           },
       λ v.
           let count = of_count v.count_most v.total_most in
-          let tile = of_due r t v.on.turn.tile_has v.on.turn.due in
+          let tile = of_due r t v.on.tile_has v.on.due in
           let indices = of_equal (length image.indices) (pixels_of r) v.on.indices_length in
           let cpe = of_equal (length image.cpe) (3 * pixels_of r) v.on.cpe_length in
-          let bytes = of_equal (length states) (tiles r.plan.tiling) v.on.turn.states_length in
+          let bytes = of_equal (length states) (tiles r.plan.tiling) v.on.states_length in
           let floats = of_equal (length deltas) (tiles r.plan.tiling) v.deltas_length in
           let copy-cpe = of_equal (length made.cpe) (3 * area (region r.plan.tiling t)) v.room.cpe_length in
           let copy-indices = of_equal (length made.indices) (area (region r.plan.tiling t)) v.room.indices_length in
           let out : not (is_in Out states t) ≡ false = rw (out_byte states t) (of_equal (get_or states t 0) 1 v.out) in
           let named = none_of r.plan.inks made.indices v.named in
-          (passes_append (record_tests r) _).1 (of_record r v.on.turn.valid, (count, (v.on.turn.unfinished, (tile, (indices, (cpe, (bytes, (floats, (copy-cpe, (copy-indices, (out, (named, tt)))))))))))),
+          (passes_append (record_tests r) _).1 (of_record r v.on.valid, (count, (v.on.unfinished, (tile, (indices, (cpe, (bytes, (floats, (copy-cpe, (copy-indices, (out, (named, tt)))))))))))),
     )
 
 module _ (r : JobRecord) (t : ℕ) (pinned : List ℕ) (cpp : List Float) (copy : Pixels) (inks : List Float) where

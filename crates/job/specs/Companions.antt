@@ -1,7 +1,7 @@
 -- Companions of demand 3: without them a system whose phases never close, or that never ends, would meet it emptily. That calls accept exactly what is valid,
 -- and keep everything where they refuse, is demand 1 (Demand1.antt).
 --
--- The theorems are `progress : Progress`, `empty_refused : EmptyRefused`, `take_recall : TakeRecall`, `counts_fit : CountsFit`, `ends : Ends`,
+-- The theorems are `progress : Progress`, `progress_anew : ProgressAnew`, `empty_refused : EmptyRefused`, `take_recall : TakeRecall`, `counts_fit : CountsFit`, `ends : Ends`,
 -- `as_refined : AsRefined` and `round_trip : RoundTrip` (proofs/Progress.antt, proofs/Recalls.antt and proofs/Companions.antt). To read them: Runs.antt and Claim.antt first.
 use Rattle.std.specs.Prelude.{ℕ, ◌+◌, ◌*◌, ◌^◌, ◌≤◌, ◌<◌, ◌≡◌, ◌≢◌, Bool, true, false, cond, ◌||◌, List, [], ◌∷◌, T, ltb, eqb, length, get_or, Float}
 use Rattle.std.specs.Float.{binary64}
@@ -39,8 +39,11 @@ pub record Reached (words : List ℕ) (O : Opening) (J : Job) : Type 0 where
 unfoldable pub sum_to : (ℕ → ℕ) → ℕ → ℕ
 sum_to f n = up_to (λ i s. s + f i) n 0
 
--- THE PHASE CLOSES (document 02, F-3): 'From every unfinished state reached, at most three such calls, work not counted, for each tile of the phase and one more
--- close the phase.' A worker that is switched off takes its copy with it, so this is said of the job with every earlier copy forgotten.
+-- THE PHASE CLOSES: from every unfinished state reached, honest calls, each accepted, at most two for each tile not yet back and one close
+
+-- the tiles of this phase that are not back
+unfoldable pub missing : Job → ℕ
+missing J = sum_to (λ t. cond (is_missing (rec J) J.states t) 1 0) (tiles (rec J).plan.tiling)
 
 unfoldable pub AllAccepted : Job → List Call → Type 0
 AllAccepted J [] = Unit
@@ -51,13 +54,27 @@ unfoldable pub closes_in : ℕ → Job → List Call → ℕ
 closes_in m J [] = m
 closes_in m J (c ∷ cs) = closes_in (closes_after m J c) (after J c) cs
 
+-- at most n fair calls, each accepted, that close the phase
+pub record Closing (words : List ℕ) (O : Opening) (J : Job) (n : ℕ) : Type 0 where
+  pub calls : List Call
+  pub fair : Fair words O J calls
+  pub accepted : AllAccepted J calls
+  pub closed : closes_in 0 J calls ≡ 1
+  pub few : length calls ≤ n
+
+abbrev pub Progress : Type 0
+Progress = (words : List ℕ) (O : Opening) (J : Job) → Reached words O J → (rec J).finished ≡ false → Closing words O J (2 * missing J + 1)
+
+-- THE PHASE CLOSES WHERE COPIES ARE LOST: 'From every unfinished state reached, at most three such calls, work not counted, for each tile of the phase and one more
+-- close the phase.' A worker that is switched off takes its copy with it, so this is said of the job with every earlier copy forgotten.
+
 -- the first close of a list is its last call
 unfoldable pub closes_last : List Call → Bool
 closes_last [] = false
 closes_last (c ∷ cs) = cond (is_close c) (eqb (length cs) 0) (closes_last cs)
 
--- at most n fair calls, each accepted, that close the phase
-pub record Closing (words : List ℕ) (O : Opening) (J : Job) (n : ℕ) : Type 0 where
+-- at most n fair calls, each accepted, that close the phase, the last of them the close
+pub record ClosingLast (words : List ℕ) (O : Opening) (J : Job) (n : ℕ) : Type 0 where
   pub calls : List Call
   pub fair : Fair words O J calls
   pub accepted : AllAccepted J calls
@@ -90,18 +107,14 @@ calls_left J = sum_due J calls_for
 abbrev pub tiles_due : Job → ℕ
 tiles_due J = sum_due J (λ s. 1)
 
--- the tiles of this phase that are not back
-unfoldable pub missing : Job → ℕ
-missing J = sum_to (λ t. cond (is_missing (rec J) J.states t) 1 0) (tiles (rec J).plan.tiling)
-
 pub record Closes (words : List ℕ) (O : Opening) (J : Job) : Type 0 where
   pub three : calls_left J ≤ 3 * tiles_due J
-  pub anew : Closing words O (forgotten J) (calls_left J + 1)
+  pub anew : ClosingLast words O (forgotten J) (calls_left J + 1)
   -- where no copy is lost a tile that is out takes one call: its put back
-  pub held : Closing words O J (2 * missing J + 1)
+  pub held : ClosingLast words O J (2 * missing J + 1)
 
-abbrev pub Progress : Type 0
-Progress = (words : List ℕ) (O : Opening) (J : Job) → Reached words O J → (rec J).finished ≡ false → Closes words O J
+abbrev pub ProgressAnew : Type 0
+ProgressAnew = (words : List ℕ) (O : Opening) (J : Job) → Reached words O J → (rec J).finished ≡ false → Closes words O J
 
 -- TAKE, THEN RECALL: 'take followed by recall leaves the job as it was' (document 02, F-3), whichever run and buffers it has; the worker's copies are not the job's
 

@@ -26,7 +26,7 @@ pub record ValidRecord (r : JobRecord) : Type 0 where
   pub left : r.finished ≡ false → r.done < r.plan.allowed
   pub accepted_most : r.accepted ≤ pixels_of r
 
--- an unfinished job, a tile of this phase, and a state for each tile
+-- recall: an unfinished job, a tile of this phase, and a state for each tile
 pub record ValidTurn (r : JobRecord) (t : ℕ) (states : List ℕ) : Type 0 where
   pub valid : ValidRecord r
   pub unfinished : r.finished ≡ false
@@ -34,11 +34,15 @@ pub record ValidTurn (r : JobRecord) (t : ℕ) (states : List ℕ) : Type 0 wher
   pub due : in_phase r.plan.tiling r.phase t ≡ true
   pub states_length : length states ≡ tiles r.plan.tiling
 
--- take and put back: the buffers of the image too
+-- take and put back: an unfinished job, a tile of this phase, and buffers of the image
 pub record ValidTile (r : JobRecord) (t : ℕ) (image : Pixels) (states : List ℕ) : Type 0 where
-  pub turn : ValidTurn r t states
+  pub valid : ValidRecord r
+  pub unfinished : r.finished ≡ false
+  pub tile_has : t < tiles r.plan.tiling
+  pub due : in_phase r.plan.tiling r.phase t ≡ true
   pub indices_length : length image.indices ≡ pixels_of r
   pub cpe_length : length image.cpe ≡ 3 * pixels_of r
+  pub states_length : length states ≡ tiles r.plan.tiling
 
 -- '3 values and 1 index for each of its dots'
 pub record ValidCopy (r : JobRecord) (t : ℕ) (copy : Pixels) : Type 0 where
