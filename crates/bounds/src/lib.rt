@@ -1,3 +1,2 @@
 // Bounds on floats, for the proof that no NaN and no infinity arises: specs/ says what a bound is, proofs/ how arithmetic keeps it.
 #![tactic(auto)]
-

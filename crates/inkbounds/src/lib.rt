@@ -1,3 +1,2 @@
 // Ink values and errors are numbers: proofs/Inks.antt.
 #![tactic(auto)]
-

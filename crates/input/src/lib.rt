@@ -21,7 +21,7 @@ fn check_halftone(
 ) -> Status
     ensures { result ≡ judge_from s (halftone_tests n palette_len indices.now pinned.now) }
 {
-    let mask_fits_lem = fits::is_mask(pinned.len(), n);
+    let mask_fits = fits::is_mask(pinned.len(), n);
     let above = fits::first_above_one(pinned);
     let palette_fits = fits::is_palette(palette_len);
     let unnamed = fits::first_unnamed(indices, palette_len / 3);

@@ -19,10 +19,13 @@ in_image c =
 
 pub channel_errors-requires : goal.channel_errors-requires
 channel_errors-requires c =
-    let f = c.requires.block_fits in record { lut_value = c.requires.lut_value; row_holds = record {
+    let f = c.requires.block_fits in record {
+      lut_value = c.requires.lut_value;
+      row_holds = record {
         pixel = λ i h. pixel_fits _ _ _ _ _ f.scene (omega (arith, h, in_image c)) c.requires.row_reaches.in_image;
         right = omega (arith, in_image c, f.scene.width_limit);
-      } }
+      };
+    }
 
 pub overflow_add-top : goal.overflow_add-top
 overflow_add-top c = omega (arith, c.requires.row_reaches.in_image, c.requires.block_fits.scene.height_limit, c.requires.block_fits.reach)
@@ -40,12 +43,15 @@ pub spread-requires : goal.spread-requires
 spread-requires c =
     let s = (goal.at.spread-requires c).Start in
     let f = c.requires.block_fits in
-    record { spread_fits = row_spreads c.args.b (image s) c.args.taps.now (length c.args.line.now) (length c.args.sums.now) f c.args.y c.saturating_sub.result c.smaller.result c.requires.row_reaches c.saturating_sub.ensures c.smaller.ensures; row_fits = record {
+    record {
+      spread_fits = row_spreads c.args.b (image s) c.args.taps.now (length c.args.line.now) (length c.args.sums.now) f c.args.y c.saturating_sub.result c.smaller.result c.requires.row_reaches c.saturating_sub.ensures c.smaller.ensures;
+      row_fits = record {
         sums = omega (arith, f.right, f.scene.width_limit, f.reach);
         values = omega (arith, c.channel_errors.auto, in_image (goal.at.spread-requires c).After-channel_errors-arg-1, f.scene.width_limit);
         shift = omega (arith, c.saturating_sub-2.ensures, f.reach);
         size = omega (arith, f.reach);
-      } }
+      };
+    }
 
 pub returns : goal.returns
 returns c =

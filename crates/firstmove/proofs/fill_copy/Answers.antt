@@ -11,13 +11,13 @@ pub copy_cpe-requires : goal.copy_cpe-requires
 copy_cpe-requires c =
     let e = c.image_rect-image.ensures in
     let p = c.requires in
-    record { holds = rw e p.holds; from_len = rw e  (p.cpe_len.0, p.copy_cpe_len.0) }
+    record { holds = rw e p.holds; from_len = rw e (p.cpe_len.0, p.copy_cpe_len.0) }
 
 pub copy_indices-requires : goal.copy_indices-requires
 copy_indices-requires c =
     let p = c.requires in
     let one = one-mul in
-    record { holds = rw c.image_rect-image.ensures p.holds; from_len = rw c.image_rect-image.ensures  (omega (arith, p.cpe_len.1), omega (arith, p.copy_cpe_len.1)) }
+    record { holds = rw c.image_rect-image.ensures p.holds; from_len = rw c.image_rect-image.ensures (omega (arith, p.cpe_len.1), omega (arith, p.copy_cpe_len.1)) }
 
 pub returns : goal.returns
 returns c =

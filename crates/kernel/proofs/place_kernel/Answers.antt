@@ -39,11 +39,14 @@ slice_bounds-kernel_into-end-3 c = omega (arith, room (goal.at.slice_bounds-kern
 pub kernel_into-requires : goal.kernel_into-requires
 kernel_into-requires c =
     let found = c.blur_radius-r in
-    let r = c.blur_radius-r.result in record { narrow = (c.requires.0, found.ensures.value); r_bound = (
+    let r = c.blur_radius-r.result in record {
+      narrow = (c.requires.0, found.ensures.value);
+      r_bound = (
         found.ensures.upper_bound,
         length-take-le (values r) c.args.p.now (omega (arith, room (goal.at.kernel_into-requires c).After-blur_radius-r, c.requires.1)),
         part_length c.args.cpp.now c.args.base (values (2 * r)) (omega (arith, room (goal.at.kernel_into-requires c).After-blur_radius-r, c.requires.2)),
-      ) }
+      );
+    }
 
 pub returns : goal.returns
 returns c =

@@ -49,9 +49,12 @@ pub perceived_with-requires : goal.perceived_with-requires
 perceived_with-requires c =
     let s = (goal.at.perceived_with-requires c).Start in
     let l = c.blur_len-lum_len.ensures in
-    let h = c.blur_len-chroma_len.ensures in record { lut_value = c.requires.lut_value; ready_to_measure = record {
+    let h = c.blur_len-chroma_len.ensures in record {
+      lut_value = c.requires.lut_value;
+      ready_to_measure = record {
         passes = c.requires.params_value;
         inks_length = cut _ _ _ (few_inks (I s) c.requires.params_value) c.requires.inks_len.0;
         lum_length = cut _ _ _ l.upper_bound c.requires.inks_len.1 ∙ l.value;
         chroma_length = cut _ _ _ h.upper_bound c.requires.inks_len.2 ∙ h.value;
-      } }
+      };
+    }

@@ -15,7 +15,7 @@ toggle_to-requires c =
 
 pub returns-in-Stay : goal.returns-in-Stay
 unfolding moved_cpe moved_indices
-returns-in-Stay c = record { cpe_after = rw c.in-Stay.is refl; indices_after = rw c.in-Stay.is  refl }
+returns-in-Stay c = record { cpe_after = rw c.in-Stay.is refl; indices_after = rw c.in-Stay.is refl }
 
 pub returns-in-Toggle : goal.returns-in-Toggle
 unfolding moved_cpe moved_indices

@@ -23,4 +23,4 @@ returns-in-Pixel c =
 pub returns-in-Outside : goal.returns-in-Outside
 returns-in-Outside c =
     let none = sym c.neighbour.ensures ∙ c.in-Outside.is in
-    record { cpe_after = rw none refl; indices_after = rw none  refl }
+    record { cpe_after = rw none refl; indices_after = rw none refl }

@@ -13,13 +13,13 @@ pub copy_cpe-requires : goal.copy_cpe-requires
 copy_cpe-requires c =
     let p = c.requires in
     let a = c.args in
-    record { holds = rw (c.image_rect-image.ensures, c.region_rect-region.ensures) (region_holds a.t p.limits.0 a.tile p.limits.1, image_holds a.t p.limits.0 a.tile p.limits.1); from_len = rw (c.image_rect-image.ensures, c.region_rect-region.ensures)  (p.copy_cpe_len.0, p.cpe_len.0 ∙ ap (λ n. 3 * n) (sym (image_area a.t))) }
+    record { holds = rw (c.image_rect-image.ensures, c.region_rect-region.ensures) (region_holds a.t p.limits.0 a.tile p.limits.1, image_holds a.t p.limits.0 a.tile p.limits.1); from_len = rw (c.image_rect-image.ensures, c.region_rect-region.ensures) (p.copy_cpe_len.0, p.cpe_len.0 ∙ ap (λ n. 3 * n) (sym (image_area a.t))) }
 
 pub copy_indices-requires : goal.copy_indices-requires
 copy_indices-requires c =
     let p = c.requires in
     let a = c.args in
-    record { holds = rw (c.image_rect-image.ensures, c.region_rect-region.ensures) (region_holds a.t p.limits.0 a.tile p.limits.1, image_holds a.t p.limits.0 a.tile p.limits.1); from_len = rw (c.image_rect-image.ensures, c.region_rect-region.ensures)  (omega (arith, p.copy_cpe_len.1), omega (arith, p.cpe_len.1, image_area a.t)) }
+    record { holds = rw (c.image_rect-image.ensures, c.region_rect-region.ensures) (region_holds a.t p.limits.0 a.tile p.limits.1, image_holds a.t p.limits.0 a.tile p.limits.1); from_len = rw (c.image_rect-image.ensures, c.region_rect-region.ensures) (omega (arith, p.copy_cpe_len.1), omega (arith, p.cpe_len.1, image_area a.t)) }
 
 pub returns : goal.returns
 returns c =

@@ -30,11 +30,11 @@ made cpp T a b d e f = rw (a, b, d, e, f)
 
 pub fill_gaps-requires : goal.fill_gaps-requires
 fill_gaps-requires c =
-    record { gaps_len = refl; kernel_fits = rw c.lum_kernel.ensures (kernel_fits 0 c.args.t.lum c.args.cpp.now (omega arith) c.requires.limits.lum_limit c.requires.room); le_radius = rw c.lum_kernel.ensures  c.requires.lum_least }
+    record { gaps_len = refl; kernel_fits = rw c.lum_kernel.ensures (kernel_fits 0 c.args.t.lum c.args.cpp.now (omega arith) c.requires.limits.lum_limit c.requires.room); le_radius = rw c.lum_kernel.ensures c.requires.lum_least }
 
 pub fill_gaps-requires-2 : goal.fill_gaps-requires-2
 fill_gaps-requires-2 c =
-    record { gaps_len = refl; kernel_fits = rw c.chroma_kernel.ensures (kernel_fits cpp_chroma c.args.t.chroma c.args.cpp.now (omega arith) c.requires.limits.chroma_limit c.requires.room); le_radius = rw c.chroma_kernel.ensures  c.requires.chroma_least }
+    record { gaps_len = refl; kernel_fits = rw c.chroma_kernel.ensures (kernel_fits cpp_chroma c.args.t.chroma c.args.cpp.now (omega arith) c.requires.limits.chroma_limit c.requires.room); le_radius = rw c.chroma_kernel.ensures c.requires.chroma_least }
 
 pub fill_steps-requires-2 : goal.fill_steps-requires-2
 fill_steps-requires-2 c =

@@ -14,8 +14,12 @@ returns-then-is_pinned c = rw (← c.is_pinned.ensures, c.if-is_pinned.true)
 
 pub apply_move-requires : goal.apply_move-requires
 apply_move-requires c =
-    let a = c.args in record { held = c.requires.held; writable = ready_writable c.requires.ready; names_ink = rw c.evaluate-best.ensures
-            (best_names (shared_of a.g a.pinned.now a.inks.now a.cpp.now) a.tab.w a.cpe.now a.indices.now a.x a.y c.requires.ready.inks_room) }
+    let a = c.args in record {
+      held = c.requires.held;
+      writable = ready_writable c.requires.ready;
+      names_ink = rw c.evaluate-best.ensures
+          (best_names (shared_of a.g a.pinned.now a.inks.now a.cpp.now) a.tab.w a.cpe.now a.indices.now a.x a.y c.requires.ready.inks_room);
+    }
 
 pub count_move-requires : goal.count_move-requires
 count_move-requires c = c.requires.accepted_bound

@@ -43,7 +43,8 @@ refine_tile-made-requires c =
     let s = (goal.at.refine_tile-made-requires c).Start in
     let T = c.args.r.plan.tiling in
     let v = valid s c.check_work-status.ensures c.if-status-ne0.false in
-    record { ready = rw c.region_rect-region.ensures (record {
+    record {
+      ready = rw c.region_rect-region.ensures (record {
         limits = limits_of c.args.r v.valid;
         lum_least = omega (arith, v.valid.lum.low);
         chroma_least = omega (arith, v.valid.chroma.low);
@@ -55,7 +56,9 @@ refine_tile-made-requires c =
         few_inks = v.valid.inks_most;
         cpp_room = v.cpp_len;
         named = v.named;
-      }); covers = rw (c.region_rect-region.ensures, c.tile_rect-rect.ensures) (region_covers T c.args.tile v.tile_has) }
+      });
+      covers = rw (c.region_rect-region.ensures, c.tile_rect-rect.ensures) (region_covers T c.args.tile v.tile_has);
+    }
 
 pub returns : goal.returns
 unfolding refined_copy job_shared

@@ -1,0 +1,20 @@
+-- `findmove::find_accepted` meets its contract: the search starts from what was built. Assumes nothing.
+use Rattle.input.specs.Input.{Input, input}
+use Rattle.prepare.proofs.Laws.{built_ready}
+use Rattle.findmove.proofs.Laws.{searches_as}
+use Rattle.findmove.proofs.find_accepted.Goals.{Start}
+use Rattle.findmove.proofs.find_accepted.Goals as goal
+
+-- the input
+abbrev I : Start → Input
+I s = input s.args.t.width s.args.t.height s.args.pixels.now s.args.palette.now s.args.indices.now s.args.pinned.now s.args.params
+
+pub first_in_pass-requires : goal.first_in_pass-requires
+first_in_pass-requires c =
+    let s = (goal.at.first_in_pass-requires c).Start in
+    built_ready (I s) c.args.t _ c.args.cpp.now _ _ c.requires.tiling c.build.ensures c.requires.passes c.requires.cpp_len
+
+pub returns : goal.returns
+returns c =
+    let s = (goal.at.returns c).Start in
+    searches_as (I s) c.args.t _ c.args.cpp.now _ _ c.first_in_pass.result c.requires.tiling c.build.ensures c.first_in_pass.ensures

@@ -1,0 +1,40 @@
+-- `is_over` meets its contract: the moves of this pass are at most the image's pixels, so that what is left of these is no less than 0. Assumes nothing.
+use Prim.Native.Nat.{◌*◌}
+use native.Mathlib.Omega.{arith}
+use mathlib.Core.Path.{sym, ◌∙◌}
+use borrow.Author.Tests.{ltb-true}
+use Rattle.tiling.specs.Tiling.{tiles}
+use Rattle.job.specs.Record.{pixels_of}
+use Rattle.job.specs.PutBack.{count_test}
+use Rattle.records.proofs.RecordLaws.{limits_of, few_pixels}
+use Rattle.putbacktests.proofs.CountLaws.{above_size, above_left}
+use Rattle.putbacktests.proofs.is_over.Goals as goal
+
+pub overflow_mul-n : goal.overflow_mul-n
+unfolding pixels_of
+overflow_mul-n c = omega (arith, few_pixels c.args.r c.requires)
+
+pub tile_size-requires : goal.tile_size-requires
+tile_size-requires c = (limits_of c.args.r c.requires, ltb-true _ _ (sym c.has_tile.ensures ∙ c.if-has_tile.true))
+
+pub overflow_sub-result : goal.overflow_sub-result
+unfolding pixels_of
+overflow_sub-result c = omega (arith, c.requires.accepted_most)
+
+pub returns-then-accepted-tile_size : goal.returns-then-accepted-tile_size
+unfolding count_test
+returns-then-accepted-tile_size c =
+    let a = c.args in
+    rw (← c.tile_size.ensures) (above_size a.tile (tiles a.r.plan.tiling) c.tile_size.result a.accepted (ltb-true _ _ (sym c.has_tile.ensures ∙ c.if-has_tile.true)) _ c.if-accepted-tile_size.true)
+
+pub returns-else-accepted-tile_size : goal.returns-else-accepted-tile_size
+unfolding count_test pixels_of
+returns-else-accepted-tile_size c =
+    let a = c.args in
+    rw (← c.tile_size.ensures)
+    (above_left a.tile (tiles a.r.plan.tiling) c.tile_size.result a.accepted (ltb-true _ _ (sym c.has_tile.ensures ∙ c.if-has_tile.true))
+    (a.r.plan.tiling.height * a.r.plan.tiling.width) a.r.accepted c.if-accepted-tile_size.false c.requires.accepted_most)
+
+pub returns : goal.returns
+unfolding count_test
+returns c = rw (sym c.has_tile.ensures ∙ c.if-has_tile.false)
