@@ -62,7 +62,7 @@ start words O =
       counts = O.counts;
       states = a.states;
       deltas = a.deltas;
-      last = no_copies;
+      last = λ t. pixels [] [];
       seen = a.rec ∷ [];
     }
 

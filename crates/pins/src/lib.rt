@@ -5,8 +5,7 @@
 ghost use Rattle.std.specs.Prelude.{◌≡◌};
 ghost use Rattle.pins.specs.Pins.{MaskFits, pinned_at};
 
-// Document 01's struct that refers to the mask: its bytes, and the image's width. The borrow checker
-// covers no function over such a struct, so `Pins::is_pinned` and `is_pinned` are proved by hand.
+// Document 01's struct that refers to the mask: its bytes, and the image's width.
 #[derive(Clone, Copy)]
 pub struct Pins<'a> {
     pub pinned: &'a [u8],
