@@ -4,4 +4,4 @@ use Rattle.firstmove.proofs.around.Goals as goal
 
 pub returns : goal.returns
 unfolding around
-returns c = rw (c.after-2.ensures, c.after.ensures, c.before-3.ensures, c.before-2.ensures)
+returns c = cc
