@@ -7,81 +7,89 @@ use base::Index;
 use found::DbsFound;
 use given::Given;
 use perceived::Measured;
-
-const STDOUT: i32 = 1;
+use std::alloc::AllocError;
 
 // The count of a pass, if it was run.
-fn print_count(count: u32, pass: usize, passes: u64) {
+fn print_count(out: &mut String, count: u32, pass: usize, passes: u64) -> Result<(), AllocError> {
     if pass as u64 >= passes {
-        return;
+        return Ok(());
     }
     if pass > 0 {
-        io::write_all(STDOUT, b",");
+        out.push(',')?;
     }
-    io::print_decimal(STDOUT, count as u64);
+    write!(out, "{count}")
 }
 
-fn print_counts(counts: &[u32], passes: u64) {
+fn print_counts(out: &mut String, counts: &[u32], passes: u64) -> Result<(), AllocError> {
     if passes == 0 {
-        io::write_all(STDOUT, b"-");
+        out.push('-')?;
     }
-    for pass in 0..counts.len() {
-        print_count(counts[pass], pass, passes);
+    for (pass, count) in counts.iter().enumerate() {
+        print_count(out, *count, pass, passes)?;
     }
+    Ok(())
 }
 
-fn print_stats(stats: DbsStats) {
-    io::write_all(STDOUT, b"refine");
-    lines::print_number(stats.number);
-    lines::print_number(stats.place);
-    lines::print_number(stats.passes);
-    lines::print_float(stats.initial_error);
-    lines::print_float(stats.final_error);
+fn print_stats(out: &mut String, stats: DbsStats) -> Result<(), AllocError> {
+    out.push_str("refine")?;
+    lines::print_number(out, stats.number)?;
+    lines::print_number(out, stats.place)?;
+    lines::print_number(out, stats.passes)?;
+    lines::print_float(out, stats.initial_error)?;
+    lines::print_float(out, stats.final_error)
 }
 
 fn print_buffers(
+    out: &mut String,
     passes: u64,
     indices: &[Index],
     cpe: &[f64],
     cpp: &[f64],
     counts: &[u32],
     inks: &[f64],
-) {
-    lines::space();
-    lines::print_bytes(indices);
-    lines::space();
-    print_counts(counts, passes);
-    given::print_floats(cpe);
-    given::print_floats(cpp);
-    lines::print_sum(checksum::counts(counts));
-    given::print_floats(inks);
-    lines::end_line();
+) -> Result<(), AllocError> {
+    lines::space(out)?;
+    lines::print_bytes(out, indices)?;
+    lines::space(out)?;
+    print_counts(out, counts, passes)?;
+    given::print_floats(out, cpe)?;
+    given::print_floats(out, cpp)?;
+    lines::print_sum(out, checksum::counts(counts))?;
+    given::print_floats(out, inks)?;
+    lines::end_line(out)
 }
 
-fn print_measured(m: Measured) {
-    io::write_all(STDOUT, b"measure");
-    lines::print_number(m.number);
-    lines::print_number(m.place);
-    lines::print_float(m.error);
-    lines::end_line();
+fn print_measured(out: &mut String, m: Measured) -> Result<(), AllocError> {
+    out.push_str("measure")?;
+    lines::print_number(out, m.number)?;
+    lines::print_number(out, m.place)?;
+    lines::print_float(out, m.error)?;
+    lines::end_line(out)
 }
 
-fn print_found(f: DbsFound, cpe: &[f64], cpp: &[f64], inks: &[f64]) {
-    io::write_all(STDOUT, b"find");
-    lines::print_number(f.number);
-    lines::print_number(f.place);
-    lines::print_number(f.found);
-    lines::print_number(f.pixel);
-    lines::print_number(f.kind);
-    lines::print_float(f.cost);
-    given::print_floats(cpe);
-    given::print_floats(cpp);
-    given::print_floats(inks);
-    lines::end_line();
+fn print_found(
+    out: &mut String,
+    f: DbsFound,
+    cpe: &[f64],
+    cpp: &[f64],
+    inks: &[f64],
+) -> Result<(), AllocError> {
+    out.push_str("find")?;
+    lines::print_number(out, f.number)?;
+    lines::print_number(out, f.place)?;
+    lines::print_number(out, f.found)?;
+    lines::print_number(out, f.pixel)?;
+    lines::print_number(out, f.kind)?;
+    lines::print_float(out, f.cost)?;
+    given::print_floats(out, cpe)?;
+    given::print_floats(out, cpp)?;
+    given::print_floats(out, inks)?;
+    lines::end_line(out)
 }
 
 // The indices are refined in a buffer of their own.
 fn refine(
+    out: &mut String,
     line: &[u8],
     g: Given,
     given: &[u8],
@@ -90,7 +98,7 @@ fn refine(
     cpp: &mut [f64],
     counts: &mut [u32],
     inks: &mut [f64],
-) {
+) -> Result<(), AllocError> {
     let indices = lines::read_part(line, 9, indices);
     let cpe = lines::floats(line, 10, cpe, 0);
     let cpp = lines::floats(line, 11, cpp, 0);
@@ -111,11 +119,11 @@ fn refine(
         counts,
         inks,
     );
-    print_stats(stats);
-    print_buffers(stats.passes, indices, cpe, cpp, counts, inks);
+    print_stats(out, stats)?;
+    print_buffers(out, stats.passes, indices, cpe, cpp, counts, inks)
 }
 
-fn measure(line: &[u8], g: Given, given: &[u8]) {
+fn measure(out: &mut String, line: &[u8], g: Given, given: &[u8]) -> Result<(), AllocError> {
     let m = dbs::perceived_error(
         given::pixels(given, g),
         lines::number(line, 1),
@@ -125,10 +133,18 @@ fn measure(line: &[u8], g: Given, given: &[u8]) {
         lines::float(line, 4),
         lines::float(line, 5),
     );
-    print_measured(m);
+    print_measured(out, m)
 }
 
-fn find(line: &[u8], g: Given, given: &[u8], cpe: &mut [f64], cpp: &mut [f64], inks: &mut [f64]) {
+fn find(
+    out: &mut String,
+    line: &[u8],
+    g: Given,
+    given: &[u8],
+    cpe: &mut [f64],
+    cpp: &mut [f64],
+    inks: &mut [f64],
+) -> Result<(), AllocError> {
     let cpe = lines::floats(line, 10, cpe, 0);
     let cpp = lines::floats(line, 11, cpp, 0);
     let inks = lines::floats(line, 13, inks, 0);
@@ -145,10 +161,11 @@ fn find(line: &[u8], g: Given, given: &[u8], cpe: &mut [f64], cpp: &mut [f64], i
         cpp,
         inks,
     );
-    print_found(f, cpe, cpp, inks);
+    print_found(out, f, cpe, cpp, inks)
 }
 
 fn refine_in(
+    out: &mut String,
     text: &[u8],
     given: &mut [u8],
     indices: &mut [Index],
@@ -156,25 +173,32 @@ fn refine_in(
     cpp: &mut [f64],
     counts: &mut [u32],
     inks: &mut [f64],
-) {
+) -> Result<(), AllocError> {
     let from = 0;
     let end = lines::line_end(text, from);
     let line = &text[from..end];
     let g = given::read_given(line, given);
-    refine(line, g, given, indices, cpe, cpp, counts, inks);
-    measure(line, g, given);
+    refine(out, line, g, given, indices, cpe, cpp, counts, inks)?;
+    measure(out, line, g, given)
 }
 
-fn find_in(text: &[u8], given: &mut [u8], cpe: &mut [f64], cpp: &mut [f64], inks: &mut [f64]) {
+fn find_in(
+    out: &mut String,
+    text: &[u8],
+    given: &mut [u8],
+    cpe: &mut [f64],
+    cpp: &mut [f64],
+    inks: &mut [f64],
+) -> Result<(), AllocError> {
     let from = 0;
     let end = lines::line_end(text, from);
     let line = &text[from..end];
     let g = given::read_given(line, given);
-    find(line, g, given, cpe, cpp, inks);
+    find(out, line, g, given, cpe, cpp, inks)
 }
 
 // A call finds each cell of every buffer set.
-fn call_refine(text: &[u8]) {
+fn call_refine(out: &mut String, text: &[u8]) -> Result<(), AllocError> {
     let mut given = [255u8; 65536];
     let mut indices = [255u8; 16384];
     let mut cpe = [-1.0f64; 16384];
@@ -182,6 +206,7 @@ fn call_refine(text: &[u8]) {
     let mut counts = [4294967295u32; 1024];
     let mut inks = [-1.0f64; 1024];
     refine_in(
+        out,
         text,
         &mut given,
         &mut indices,
@@ -189,18 +214,18 @@ fn call_refine(text: &[u8]) {
         &mut cpp,
         &mut counts,
         &mut inks,
-    );
+    )
 }
 
-fn call_find(text: &[u8]) {
+fn call_find(out: &mut String, text: &[u8]) -> Result<(), AllocError> {
     let mut given = [255u8; 65536];
     let mut cpe = [-1.0f64; 16384];
     let mut cpp = [-1.0f64; 8500];
     let mut inks = [-1.0f64; 1024];
-    find_in(text, &mut given, &mut cpe, &mut cpp, &mut inks);
+    find_in(out, text, &mut given, &mut cpe, &mut cpp, &mut inks)
 }
 
-pub fn call(text: &[u8]) {
-    call_refine(text);
-    call_find(text);
+pub fn call(out: &mut String, text: &[u8]) -> Result<(), AllocError> {
+    call_refine(out, text)?;
+    call_find(out, text)
 }

@@ -1,5 +1,4 @@
-// The C interface (include/dbs.h): the static library. Numbers pass as themselves, a slice as a pointer
-// and then its number of elements, answers as structs by value. Each function hands on to the crate of its
+// The calls of the library, as Rattle crates make them; dbs_c exports them to C. Each function hands on to the crate of its
 // call, whose contract it has.
 #![tactic(auto)]
 
@@ -29,8 +28,7 @@ use perceived::Measured;
 use work::DbsWorked;
 
 // Refine the indices in place, by the plain walk over the whole image.
-#[unsafe(no_mangle)]
-pub extern "C" fn dbs_refine(
+pub fn dbs_refine(
     pixels: &[u8],
     width: u64,
     height: u64,
@@ -68,8 +66,7 @@ pub extern "C" fn dbs_refine(
 }
 
 // Perceived error of the indices; pins play no part.
-#[unsafe(no_mangle)]
-pub extern "C" fn perceived_error(
+pub fn perceived_error(
     pixels: &[u8],
     width: u64,
     height: u64,
@@ -88,8 +85,7 @@ pub extern "C" fn perceived_error(
 }
 
 // The first pixel, in the order of a whole pass, at which a move would be accepted.
-#[unsafe(no_mangle)]
-pub extern "C" fn dbs_find_move(
+pub fn dbs_find_move(
     pixels: &[u8],
     width: u64,
     height: u64,
@@ -114,8 +110,7 @@ pub extern "C" fn dbs_find_move(
 }
 
 // Open a job: everything up to the walk.
-#[unsafe(no_mangle)]
-pub extern "C" fn dbs_open(
+pub fn dbs_open(
     record: &mut [u64],
     pixels: &[u8],
     width: u64,
@@ -159,8 +154,7 @@ pub extern "C" fn dbs_open(
 }
 
 // Copy a tile's region out and mark the tile out.
-#[unsafe(no_mangle)]
-pub extern "C" fn dbs_take(
+pub fn dbs_take(
     record: &[u64],
     tile: u64,
     indices: &[Index],
@@ -183,8 +177,7 @@ pub extern "C" fn dbs_take(
 }
 
 // Refine a tile on its copy. Touches no job state.
-#[unsafe(no_mangle)]
-pub extern "C" fn dbs_work(
+pub fn dbs_work(
     record: &[u64],
     tile: u64,
     pinned: &[u8],
@@ -199,8 +192,7 @@ pub extern "C" fn dbs_work(
 }
 
 // Write a copy back over its region, with the count and delta that dbs_work answered.
-#[unsafe(no_mangle)]
-pub extern "C" fn dbs_put_back(
+pub fn dbs_put_back(
     record: &mut [u64],
     tile: u64,
     indices: &mut [Index],
@@ -229,16 +221,14 @@ pub extern "C" fn dbs_put_back(
 }
 
 // Make an out tile waiting again; image and cpe stay.
-#[unsafe(no_mangle)]
-pub extern "C" fn dbs_recall(record: &[u64], tile: u64, tile_states: &mut [u8]) -> Status
+pub fn dbs_recall(record: &[u64], tile: u64, tile_states: &mut [u8]) -> Status
     ensures { recalled result tile_states.new ≡ recall_run «record».now tile tile_states.old }
 {
     recall::recall_run(record, tile, tile_states)
 }
 
 // Close the phase: join its deltas to the error and go on to the next phase.
-#[unsafe(no_mangle)]
-pub extern "C" fn dbs_close(
+pub fn dbs_close(
     record: &mut [u64],
     accepted_per_pass: &mut [u32],
     tile_states: &mut [u8],

@@ -10,8 +10,8 @@ ghost use Rattle.eye.specs.Eye.{eye_tests, KernelRadius};
 
 use base::CPP_CHROMA;
 use eye::DbsParams;
-
-const STDOUT: i32 = 1;
+use std::alloc::AllocError;
+use std::io;
 
 const COUNT: usize = 63;
 
@@ -160,53 +160,49 @@ fn kernels(params: DbsParams, lum_radius: usize, chroma_radius: usize, cpp: &mut
     checksum::floats(h, &cpp[CPP_CHROMA..chroma_end])
 }
 
-fn two(a: u64, b: u64) {
-    io::write_all(STDOUT, b" ");
-    io::print_decimal(STDOUT, a);
-    io::write_all(STDOUT, b" ");
-    io::print_decimal(STDOUT, b);
+fn two(out: &mut String, a: u64, b: u64) -> Result<(), AllocError> {
+    write!(out, " {a} {b}")
 }
 
 // What a line says of an eye.
-fn answer(params: DbsParams, cpp: &mut [f64])
+fn answer(out: &mut String, params: DbsParams, cpp: &mut [f64]) -> Result<(), AllocError>
     requires { length cpp.old ≡ cpp_length }
 {
     let eye = params.validate();
     let status = eye.status;
     if status.number != 0 {
-        two(status.number, status.place);
-        return;
+        return two(out, status.number, status.place);
     }
     let sum = kernels(params, eye.lum_radius, eye.chroma_radius, cpp);
-    two(eye.lum_radius as u64, eye.chroma_radius as u64);
-    io::write_all(STDOUT, b" ");
-    io::print_hex(STDOUT, sum, 8);
+    two(out, eye.lum_radius as u64, eye.chroma_radius as u64)?;
+    write!(out, " {sum:08x}")
 }
 
-fn line(ppi: u64, distance: u64, cpp: &mut [f64])
+fn line(out: &mut String, ppi: u64, distance: u64, cpp: &mut [f64]) -> Result<(), AllocError>
     requires { length cpp.old ≡ cpp_length }
 {
-    io::print_hex(STDOUT, ppi, 16);
-    io::write_all(STDOUT, b" ");
-    io::print_hex(STDOUT, distance, 16);
+    write!(out, "{ppi:016x} {distance:016x}")?;
     let params = DbsParams {
         viewing_distance_cm: bits::to_float(distance),
         ppi: bits::to_float(ppi),
     };
-    answer(params, cpp);
-    io::write_all(STDOUT, b"\n");
+    answer(out, params, cpp)?;
+    out.push('\n')
 }
 
-fn lines(cpp: &mut [f64])
+fn lines(out: &mut String, cpp: &mut [f64]) -> Result<(), AllocError>
     requires { length cpp.old ≡ cpp_length }
 {
     let eyes = EYES;
     for i in 0..COUNT {
-        line(eyes[2 * i], eyes[2 * i + 1], cpp);
+        line(out, eyes[2 * i], eyes[2 * i + 1], cpp)?;
     }
+    Ok(())
 }
 
-fn main() {
+fn main(rt: HostRuntime) -> io::Result<()> {
     let mut cpp = [0.0f64; 8450];
-    lines(&mut cpp);
+    let mut out = String::new(rt.alloc());
+    lines(&mut out, &mut cpp)?;
+    print!(rt; "{out}")
 }

@@ -3,8 +3,7 @@
 #![tactic(auto)]
 
 use base::Status;
-
-const STDOUT: i32 = 1;
+use std::alloc::AllocError;
 
 // Room for 16,384 of each, and where it begins.
 const ROOM: usize = 16384;
@@ -54,20 +53,22 @@ pub fn indices(given: &[u8], g: Given) -> &[u8] {
     lines::seen_span(given, INDICES, g.indices)
 }
 
-pub fn print_status(name: &[u8], s: Status) {
-    io::write_all(STDOUT, name);
-    lines::print_number(s.number);
-    lines::print_number(s.place);
+pub fn print_status(out: &mut String, name: &[u8], s: Status) -> Result<(), AllocError> {
+    for b in name {
+        out.push(char::from(*b))?;
+    }
+    lines::print_number(out, s.number)?;
+    lines::print_number(out, s.place)
 }
 
-pub fn print_floats(values: &[f64]) {
-    lines::print_sum(checksum::floats(0, values));
+pub fn print_floats(out: &mut String, values: &[f64]) -> Result<(), AllocError> {
+    lines::print_sum(out, checksum::floats(0, values))
 }
 
-pub fn print_bytes(values: &[u8]) {
-    lines::print_sum(checksum::bytes(values));
+pub fn print_bytes(out: &mut String, values: &[u8]) -> Result<(), AllocError> {
+    lines::print_sum(out, checksum::bytes(values))
 }
 
-pub fn print_words(values: &[u64]) {
-    lines::print_sum(checksum::words(values));
+pub fn print_words(out: &mut String, values: &[u64]) -> Result<(), AllocError> {
+    lines::print_sum(out, checksum::words(values))
 }

@@ -1,10 +1,11 @@
 // The lines of compare/replay.txt: words separated by one space, numbers, floats by their bits, bytes of two
-// digits, each with how often it comes if that is more than once; parts of buffers, as long as a word says; and their like written.
+// digits, each with how often it comes if that is more than once; parts of buffers, as long as a word says; and their like
+// written at the end of a text.
 #![tactic(auto)]
 
-ghost use Rattle.std.specs.Prelude.{◌<◌, ◌≤◌, length};
+ghost use Rattle.std.specs.Prelude.{◌+◌, ◌^◌, ◌<◌, ◌≤◌, length};
 
-const STDOUT: i32 = 1;
+use std::alloc::AllocError;
 
 // A byte of the text, a space past its end.
 pub fn byte_at(text: &[u8], i: usize) -> u8 {
@@ -14,7 +15,9 @@ pub fn byte_at(text: &[u8], i: usize) -> u8 {
 // The index of the line's end.
 pub fn line_end(text: &[u8], from: usize) -> usize
     requires { from ≤ length text.now }
-    ensures { (from ≤ result) × (result ≤ length text.now) × (result < 18446744073709551615) }
+    ensures begins { from ≤ result }
+    ensures ends { result ≤ length text.now }
+    ensures room { result + 1 < 2 ^ 64 }
 {
     for i in from..text.len() {
         if text[i] == b'\n' {
@@ -67,12 +70,12 @@ fn pair(high: u8, low: u8) -> u8 {
 
 // n with one digit more.
 fn push(n: u64, b: u8, base: u64) -> u64 {
-    let two = std::num::wrapping_add_u64(n, n);
-    let four = std::num::wrapping_add_u64(two, two);
-    let eight = std::num::wrapping_add_u64(four, four);
+    let two = n.wrapping_add(n);
+    let four = two.wrapping_add(two);
+    let eight = four.wrapping_add(four);
     let rest = if base == 10 { two } else { eight };
-    let scaled = std::num::wrapping_add_u64(eight, rest);
-    std::num::wrapping_add_u64(scaled, digit(b) as u64)
+    let scaled = eight.wrapping_add(rest);
+    scaled.wrapping_add(digit(b) as u64)
 }
 
 // The number that begins here, of base 10 or 16, up to the first byte that is no digit.
@@ -109,7 +112,7 @@ struct Reader {
 fn past_comma(line: &[u8], from: usize) -> usize {
     for i in from..line.len() {
         if line[i] == b',' {
-            return std::num::wrapping_add_usize(i, 1);
+            return i + 1;
         }
     }
     line.len()
@@ -126,11 +129,11 @@ fn new_byte(line: &[u8], at: usize) -> Reader {
             ended: true,
         };
     }
-    let second = std::num::wrapping_add_usize(at, 1);
+    let second = at.wrapping_add(1);
     let byte = pair(high, byte_at(line, second));
-    let after = std::num::wrapping_add_usize(second, 1);
+    let after = second.wrapping_add(1);
     if byte_at(line, after) == b'x' {
-        let times = std::num::wrapping_add_usize(after, 1);
+        let times = after.wrapping_add(1);
         return Reader {
             at: past_comma(line, times),
             byte,
@@ -202,7 +205,8 @@ pub fn begins(line: &[u8], name: &[u8; 4]) -> bool {
 // Where a part ends that begins at `from` and is as long as word k says, in a buffer of so many cells.
 fn part_end(line: &[u8], k: usize, from: usize, most: usize) -> usize
     requires { from ≤ most }
-    ensures { (from ≤ result) × (result ≤ most) }
+    ensures begins { from ≤ result }
+    ensures ends { result ≤ most }
 {
     from + clamp(number(line, k), most - from)
 }
@@ -281,18 +285,19 @@ pub fn read_part<'a>(line: &[u8], k: usize, buffer: &'a mut [u8]) -> &'a mut [u8
     &mut buffer[a..e]
 }
 
-pub fn space() {
-    io::write_all(STDOUT, b" ");
+pub fn space(out: &mut String) -> Result<(), AllocError> {
+    out.push(' ')
 }
 
-fn print_byte(b: u8) {
-    io::print_hex(STDOUT, b as u64, 2);
+fn print_byte(out: &mut String, b: u8) -> Result<(), AllocError> {
+    write!(out, "{b:02x}")
 }
 
 // Where the bytes end that are equal to the one here.
 fn run_end(bytes: &[u8], from: usize) -> usize
     requires { from < length bytes.now }
-    ensures { (from < result) × (result ≤ length bytes.now) }
+    ensures begins { from < result }
+    ensures ends { result ≤ length bytes.now }
 {
     let b = bytes[from];
     for i in from + 1..bytes.len() {
@@ -304,46 +309,42 @@ fn run_end(bytes: &[u8], from: usize) -> usize
 }
 
 // A byte n times.
-fn print_run(b: u8, n: usize) {
+fn print_run(out: &mut String, b: u8, n: usize) -> Result<(), AllocError> {
     if n >= 16 {
-        print_byte(b);
-        io::write_all(STDOUT, b"x");
-        io::print_decimal(STDOUT, n as u64);
-        io::write_all(STDOUT, b",");
-        return;
+        return write!(out, "{b:02x}x{n},");
     }
-    for i in 0..n {
-        print_byte(b);
+    for _ in 0..n {
+        print_byte(out, b)?;
     }
+    Ok(())
 }
 
-pub fn print_bytes(bytes: &[u8]) {
-    if bytes.len() == 0 {
-        io::write_all(STDOUT, b"-");
+pub fn print_bytes(out: &mut String, bytes: &[u8]) -> Result<(), AllocError> {
+    if bytes.is_empty() {
+        return out.push('-');
     }
     let mut at = 0;
     while at < bytes.len() {
         let end = run_end(bytes, at);
-        print_run(bytes[at], end - at);
+        print_run(out, bytes[at], end - at)?;
         at = end;
     }
+    Ok(())
 }
 
-pub fn print_number(n: u64) {
-    space();
-    io::print_decimal(STDOUT, n);
+pub fn print_number(out: &mut String, n: u64) -> Result<(), AllocError> {
+    write!(out, " {n}")
 }
 
-pub fn print_float(x: f64) {
-    space();
-    io::print_hex(STDOUT, bits::of_float(x), 16);
+pub fn print_float(out: &mut String, x: f64) -> Result<(), AllocError> {
+    let pattern = bits::of_float(x);
+    write!(out, " {pattern:016x}")
 }
 
-pub fn print_sum(sum: u64) {
-    space();
-    io::print_hex(STDOUT, sum, 8);
+pub fn print_sum(out: &mut String, sum: u64) -> Result<(), AllocError> {
+    write!(out, " {sum:08x}")
 }
 
-pub fn end_line() {
-    io::write_all(STDOUT, b"\n");
+pub fn end_line(out: &mut String) -> Result<(), AllocError> {
+    out.push('\n')
 }

@@ -6,9 +6,8 @@ ghost use Rattle.std.specs.Prelude.{◌≤◌};
 
 use base::{Index, Status};
 use given::{INDICES, PINNED};
+use std::alloc::AllocError;
 use work::DbsWorked;
-
-const STDOUT: i32 = 1;
 
 // The pixel of the copies' buffers at which a copy begins.
 fn from(line: &[u8]) -> usize
@@ -17,13 +16,18 @@ fn from(line: &[u8]) -> usize
     lines::clamp(lines::number(line, 2), 1024)
 }
 
-fn print_copy(copy_cpe: &[f64], copy_indices: &[Index]) {
-    given::print_floats(copy_cpe);
-    given::print_bytes(copy_indices);
-    lines::end_line();
+fn print_copy(
+    out: &mut String,
+    copy_cpe: &[f64],
+    copy_indices: &[Index],
+) -> Result<(), AllocError> {
+    given::print_floats(out, copy_cpe)?;
+    given::print_bytes(out, copy_indices)?;
+    lines::end_line(out)
 }
 
 pub fn take(
+    out: &mut String,
     line: &[u8],
     given: &[u8],
     cpe: &[f64],
@@ -31,7 +35,7 @@ pub fn take(
     record: &[u64],
     copy_cpe: &mut [f64],
     copy_indices: &mut [Index],
-) {
+) -> Result<(), AllocError> {
     let states = lines::part(line, 5, states, 0);
     let copy_cpe = lines::floats(line, 7, copy_cpe, 3 * from(line));
     let copy_indices = lines::part(line, 8, copy_indices, from(line));
@@ -44,20 +48,21 @@ pub fn take(
         copy_cpe,
         copy_indices,
     );
-    given::print_status(b"taken", s);
-    given::print_bytes(states);
-    print_copy(copy_cpe, copy_indices);
+    given::print_status(out, b"taken", s)?;
+    given::print_bytes(out, states)?;
+    print_copy(out, copy_cpe, copy_indices)
 }
 
-fn print_worked(w: DbsWorked) {
-    io::write_all(STDOUT, b"worked");
-    lines::print_number(w.number);
-    lines::print_number(w.place);
-    lines::print_number(w.accepted);
-    lines::print_float(w.delta);
+fn print_worked(out: &mut String, w: DbsWorked) -> Result<(), AllocError> {
+    out.push_str("worked")?;
+    lines::print_number(out, w.number)?;
+    lines::print_number(out, w.place)?;
+    lines::print_number(out, w.accepted)?;
+    lines::print_float(out, w.delta)
 }
 
 pub fn work(
+    out: &mut String,
     line: &[u8],
     given: &[u8],
     cpp: &[f64],
@@ -65,7 +70,7 @@ pub fn work(
     record: &[u64],
     copy_cpe: &mut [f64],
     copy_indices: &mut [Index],
-) {
+) -> Result<(), AllocError> {
     let copy_cpe = lines::floats(line, 7, copy_cpe, 3 * from(line));
     let copy_indices = lines::part(line, 8, copy_indices, from(line));
     let w = dbs::dbs_work(
@@ -77,28 +82,30 @@ pub fn work(
         copy_indices,
         lines::seen_floats(line, 5, inks, 0),
     );
-    print_worked(w);
-    print_copy(copy_cpe, copy_indices);
+    print_worked(out, w)?;
+    print_copy(out, copy_cpe, copy_indices)
 }
 
 fn print_back(
+    out: &mut String,
     s: Status,
     indices: &[Index],
     cpe: &[f64],
     states: &[u8],
     deltas: &[f64],
     record: &[u64],
-) {
-    given::print_status(b"back", s);
-    given::print_bytes(indices);
-    given::print_floats(cpe);
-    given::print_bytes(states);
-    given::print_floats(deltas);
-    given::print_words(record);
-    lines::end_line();
+) -> Result<(), AllocError> {
+    given::print_status(out, b"back", s)?;
+    given::print_bytes(out, indices)?;
+    given::print_floats(out, cpe)?;
+    given::print_bytes(out, states)?;
+    given::print_floats(out, deltas)?;
+    given::print_words(out, record)?;
+    lines::end_line(out)
 }
 
 pub fn put_back(
+    out: &mut String,
     line: &[u8],
     given: &mut [u8],
     cpe: &mut [f64],
@@ -107,7 +114,7 @@ pub fn put_back(
     record: &mut [u64],
     copy_cpe: &[f64],
     copy_indices: &[Index],
-) {
+) -> Result<(), AllocError> {
     let indices = lines::part(line, 5, given, INDICES);
     let cpe = lines::floats(line, 6, cpe, 0);
     let states = lines::part(line, 7, states, 0);
@@ -125,28 +132,34 @@ pub fn put_back(
         lines::number(line, 3),
         lines::float(line, 4),
     );
-    print_back(s, indices, cpe, states, deltas, record);
+    print_back(out, s, indices, cpe, states, deltas, record)
 }
 
-pub fn recall(line: &[u8], states: &mut [u8], record: &[u64]) {
+pub fn recall(
+    out: &mut String,
+    line: &[u8],
+    states: &mut [u8],
+    record: &[u64],
+) -> Result<(), AllocError> {
     let states = lines::part(line, 2, states, 0);
     let s = dbs::dbs_recall(
         lines::seen_words(line, 3, record),
         lines::number(line, 1),
         states,
     );
-    given::print_status(b"recalled", s);
-    given::print_bytes(states);
-    lines::end_line();
+    given::print_status(out, b"recalled", s)?;
+    given::print_bytes(out, states)?;
+    lines::end_line(out)
 }
 
 pub fn close(
+    out: &mut String,
     line: &[u8],
     counts: &mut [u32],
     states: &mut [u8],
     deltas: &[f64],
     record: &mut [u64],
-) {
+) -> Result<(), AllocError> {
     let counts = lines::counts(line, 1, counts);
     let states = lines::part(line, 2, states, 0);
     let record = lines::words(line, 4, record);
@@ -156,11 +169,11 @@ pub fn close(
         states,
         lines::seen_floats(line, 3, deltas, 0),
     );
-    given::print_status(b"closed", s);
-    lines::print_sum(checksum::counts(counts));
-    given::print_bytes(states);
-    given::print_words(record);
-    lines::end_line();
+    given::print_status(out, b"closed", s)?;
+    lines::print_sum(out, checksum::counts(counts))?;
+    given::print_bytes(out, states)?;
+    given::print_words(out, record)?;
+    lines::end_line(out)
 }
 
 // Word I of the record is set.

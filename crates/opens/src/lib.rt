@@ -4,8 +4,10 @@
 
 use base::Status;
 use given::Given;
+use std::alloc::AllocError;
 
 fn print_opened(
+    out: &mut String,
     s: Status,
     cpe: &[f64],
     cpp: &[f64],
@@ -13,18 +15,19 @@ fn print_opened(
     states: &[u8],
     deltas: &[f64],
     record: &[u64],
-) {
-    given::print_status(b"opened", s);
-    given::print_floats(cpe);
-    given::print_floats(cpp);
-    given::print_floats(inks);
-    given::print_bytes(states);
-    given::print_floats(deltas);
-    given::print_words(record);
-    lines::end_line();
+) -> Result<(), AllocError> {
+    given::print_status(out, b"opened", s)?;
+    given::print_floats(out, cpe)?;
+    given::print_floats(out, cpp)?;
+    given::print_floats(out, inks)?;
+    given::print_bytes(out, states)?;
+    given::print_floats(out, deltas)?;
+    given::print_words(out, record)?;
+    lines::end_line(out)
 }
 
 pub fn open(
+    out: &mut String,
     line: &[u8],
     g: Given,
     given: &[u8],
@@ -35,7 +38,7 @@ pub fn open(
     states: &mut [u8],
     deltas: &mut [f64],
     record: &mut [u64],
-) {
+) -> Result<(), AllocError> {
     let cpe = lines::floats(line, 10, cpe, 0);
     let cpp = lines::floats(line, 11, cpp, 0);
     let inks = lines::floats(line, 13, inks, 0);
@@ -60,5 +63,5 @@ pub fn open(
         deltas,
         inks,
     );
-    print_opened(s, cpe, cpp, inks, states, deltas, record);
+    print_opened(out, s, cpe, cpp, inks, states, deltas, record)
 }

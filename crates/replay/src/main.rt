@@ -7,8 +7,9 @@
 ghost use Rattle.std.specs.Prelude.{◌<◌, ◌≤◌, length};
 
 use base::Index;
-
-const STDIN: i32 = 0;
+use std::alloc::AllocError;
+use std::io;
+use std::io::Read;
 
 // A letter that tells the lines of a list apart: the first, or of word and work the last.
 fn kind(line: &[u8]) -> u8 {
@@ -19,37 +20,46 @@ fn kind(line: &[u8]) -> u8 {
     first
 }
 
-// The answer is at the buffers' lifetime: they are lent for good, and nothing is owed of their lengths.
-fn list_in<'a>(
+// Runs the lines of a list on lent buffers.
+fn list_in(
+    out: &mut String,
     text: &[u8],
-    given: &'a mut [u8],
-    cpe: &'a mut [f64],
-    cpp: &'a mut [f64],
-    counts: &'a mut [u32],
-    inks: &'a mut [f64],
-    states: &'a mut [u8],
-    deltas: &'a mut [f64],
-    record: &'a mut [u64],
-    copy_cpe: &'a mut [f64],
-    copy_indices: &'a mut [Index],
-) -> &'a [u64] {
+    given: &mut [u8],
+    cpe: &mut [f64],
+    cpp: &mut [f64],
+    counts: &mut [u32],
+    inks: &mut [f64],
+    states: &mut [u8],
+    deltas: &mut [f64],
+    record: &mut [u64],
+    copy_cpe: &mut [f64],
+    copy_indices: &mut [Index],
+) -> Result<(), AllocError> {
     let mut at = 0;
     while at < text.len() {
         let end = lines::line_end(text, at);
         let line = &text[at..end];
         at = end + 1;
-        let kind = kind(line);
-        if kind == b'o' {
-            let g = given::read_given(line, given);
-            opens::open(
-                line, g, given, cpe, cpp, counts, inks, states, deltas, record,
-            );
-        } else if kind == b't' {
-            lists::take(line, given, cpe, states, record, copy_cpe, copy_indices);
-        } else if kind == b'k' {
-            lists::work(line, given, cpp, inks, record, copy_cpe, copy_indices);
-        } else if kind == b'p' {
-            lists::put_back(
+        match kind(line) {
+            b'o' => {
+                let g = given::read_given(line, given);
+                opens::open(
+                    out, line, g, given, cpe, cpp, counts, inks, states, deltas, record,
+                )?;
+            }
+            b't' => lists::take(
+                out,
+                line,
+                given,
+                cpe,
+                states,
+                record,
+                copy_cpe,
+                copy_indices,
+            )?,
+            b'k' => lists::work(out, line, given, cpp, inks, record, copy_cpe, copy_indices)?,
+            b'p' => lists::put_back(
+                out,
                 line,
                 given,
                 cpe,
@@ -58,22 +68,18 @@ fn list_in<'a>(
                 record,
                 copy_cpe,
                 copy_indices,
-            );
-        } else if kind == b'r' {
-            lists::recall(line, states, record);
-        } else if kind == b'c' {
-            lists::close(line, counts, states, deltas, record);
-        } else if kind == b'd' {
-            lists::set_word(line, record);
-        } else {
-            lists::set_index(line, copy_indices);
+            )?,
+            b'r' => lists::recall(out, line, states, record)?,
+            b'c' => lists::close(out, line, counts, states, deltas, record)?,
+            b'd' => lists::set_word(line, record),
+            _ => lists::set_index(line, copy_indices),
         }
     }
-    record
+    Ok(())
 }
 
 // A list, which begins with an open, finds each cell of every buffer set.
-fn list(text: &[u8]) {
+fn list(out: &mut String, text: &[u8]) -> Result<(), AllocError> {
     let mut given = [255u8; 65536];
     let mut cpe = [-1.0f64; 1024];
     let mut cpp = [-1.0f64; 8500];
@@ -85,6 +91,7 @@ fn list(text: &[u8]) {
     let mut copy_cpe = [-1.0f64; 3072];
     let mut copy_indices = [255u8; 1024];
     list_in(
+        out,
         text,
         &mut given,
         &mut cpe,
@@ -96,7 +103,7 @@ fn list(text: &[u8]) {
         &mut record,
         &mut copy_cpe,
         &mut copy_indices,
-    );
+    )
 }
 
 // Whether a line ends here and a list or a call begins after it: no other line has these letters first.
@@ -111,7 +118,8 @@ fn begins_list(text: &[u8], at: usize) -> bool {
 // Where the list or the call ends that begins here.
 fn list_end(text: &[u8], from: usize) -> usize
     requires { from < length text.now }
-    ensures { (from < result) × (result ≤ length text.now) }
+    ensures begins { from < result }
+    ensures ends { result ≤ length text.now }
 {
     for i in from + 1..text.len() {
         if begins_list(text, i) {
@@ -121,22 +129,25 @@ fn list_end(text: &[u8], from: usize) -> usize
     text.len()
 }
 
-fn all_lists(text: &[u8]) {
+fn all_lists(out: &mut String, text: &[u8]) -> Result<(), AllocError> {
     let mut at = 0;
     while at < text.len() {
         let end = list_end(text, at);
         let part = &text[at..end];
         at = end;
         if lines::byte_at(part, 0) == b'c' {
-            calls::call(part);
+            calls::call(out, part)?;
         } else {
-            list(part);
+            list(out, part)?;
         }
     }
+    Ok(())
 }
 
-fn main() {
-    let mut text = io::large_buffer();
-    let n = io::read_full(STDIN, &mut text);
-    all_lists(&text[..n]);
+fn main(rt: HostRuntime) -> io::Result<()> {
+    let mut text = Vec::new(rt.alloc());
+    rt.reader().read_to_end(&mut text)?;
+    let mut out = String::new(rt.alloc());
+    all_lists(&mut out, &text)?;
+    print!(rt; "{out}")
 }
