@@ -7,89 +7,89 @@ use base::Index;
 use found::DbsFound;
 use given::Given;
 use perceived::Measured;
-use std::alloc::AllocError;
+use std::io::{self, Print};
 
 // The count of a pass, if it was run.
-fn print_count(out: &mut String, count: u32, pass: usize, passes: u64) -> Result<(), AllocError> {
+fn print_count(rt: &impl Print, count: u32, pass: usize, passes: u64) -> io::Result<()> {
     if pass as u64 >= passes {
         return Ok(());
     }
     if pass > 0 {
-        out.push(',')?;
+        print!(rt; ",")?;
     }
-    write!(out, "{count}")
+    print!(rt; "{count}")
 }
 
-fn print_counts(out: &mut String, counts: &[u32], passes: u64) -> Result<(), AllocError> {
+fn print_counts(rt: &impl Print, counts: &[u32], passes: u64) -> io::Result<()> {
     if passes == 0 {
-        out.push('-')?;
+        print!(rt; "-")?;
     }
     for (pass, count) in counts.iter().enumerate() {
-        print_count(out, *count, pass, passes)?;
+        print_count(rt, *count, pass, passes)?;
     }
     Ok(())
 }
 
-fn print_stats(out: &mut String, stats: DbsStats) -> Result<(), AllocError> {
-    out.push_str("refine")?;
-    lines::print_number(out, stats.number)?;
-    lines::print_number(out, stats.place)?;
-    lines::print_number(out, stats.passes)?;
-    lines::print_float(out, stats.initial_error)?;
-    lines::print_float(out, stats.final_error)
+fn print_stats(rt: &impl Print, stats: DbsStats) -> io::Result<()> {
+    print!(rt; "refine")?;
+    lines::print_number(rt, stats.number)?;
+    lines::print_number(rt, stats.place)?;
+    lines::print_number(rt, stats.passes)?;
+    lines::print_float(rt, stats.initial_error)?;
+    lines::print_float(rt, stats.final_error)
 }
 
 fn print_buffers(
-    out: &mut String,
+    rt: &impl Print,
     passes: u64,
     indices: &[Index],
     cpe: &[f64],
     cpp: &[f64],
     counts: &[u32],
     inks: &[f64],
-) -> Result<(), AllocError> {
-    lines::space(out)?;
-    lines::print_bytes(out, indices)?;
-    lines::space(out)?;
-    print_counts(out, counts, passes)?;
-    given::print_floats(out, cpe)?;
-    given::print_floats(out, cpp)?;
-    lines::print_sum(out, checksum::counts(counts))?;
-    given::print_floats(out, inks)?;
-    lines::end_line(out)
+) -> io::Result<()> {
+    lines::space(rt)?;
+    lines::print_bytes(rt, indices)?;
+    lines::space(rt)?;
+    print_counts(rt, counts, passes)?;
+    given::print_floats(rt, cpe)?;
+    given::print_floats(rt, cpp)?;
+    lines::print_sum(rt, checksum::counts(counts))?;
+    given::print_floats(rt, inks)?;
+    lines::end_line(rt)
 }
 
-fn print_measured(out: &mut String, m: Measured) -> Result<(), AllocError> {
-    out.push_str("measure")?;
-    lines::print_number(out, m.number)?;
-    lines::print_number(out, m.place)?;
-    lines::print_float(out, m.error)?;
-    lines::end_line(out)
+fn print_measured(rt: &impl Print, m: Measured) -> io::Result<()> {
+    print!(rt; "measure")?;
+    lines::print_number(rt, m.number)?;
+    lines::print_number(rt, m.place)?;
+    lines::print_float(rt, m.error)?;
+    lines::end_line(rt)
 }
 
 fn print_found(
-    out: &mut String,
+    rt: &impl Print,
     f: DbsFound,
     cpe: &[f64],
     cpp: &[f64],
     inks: &[f64],
-) -> Result<(), AllocError> {
-    out.push_str("find")?;
-    lines::print_number(out, f.number)?;
-    lines::print_number(out, f.place)?;
-    lines::print_number(out, f.found)?;
-    lines::print_number(out, f.pixel)?;
-    lines::print_number(out, f.kind)?;
-    lines::print_float(out, f.cost)?;
-    given::print_floats(out, cpe)?;
-    given::print_floats(out, cpp)?;
-    given::print_floats(out, inks)?;
-    lines::end_line(out)
+) -> io::Result<()> {
+    print!(rt; "find")?;
+    lines::print_number(rt, f.number)?;
+    lines::print_number(rt, f.place)?;
+    lines::print_number(rt, f.found)?;
+    lines::print_number(rt, f.pixel)?;
+    lines::print_number(rt, f.kind)?;
+    lines::print_float(rt, f.cost)?;
+    given::print_floats(rt, cpe)?;
+    given::print_floats(rt, cpp)?;
+    given::print_floats(rt, inks)?;
+    lines::end_line(rt)
 }
 
 // The indices are refined in a buffer of their own.
 fn refine(
-    out: &mut String,
+    rt: &impl Print,
     line: &[u8],
     g: Given,
     given: &[u8],
@@ -98,7 +98,7 @@ fn refine(
     cpp: &mut [f64],
     counts: &mut [u32],
     inks: &mut [f64],
-) -> Result<(), AllocError> {
+) -> io::Result<()> {
     let indices = lines::read_part(line, 9, indices);
     let cpe = lines::floats(line, 10, cpe, 0);
     let cpp = lines::floats(line, 11, cpp, 0);
@@ -119,11 +119,11 @@ fn refine(
         counts,
         inks,
     );
-    print_stats(out, stats)?;
-    print_buffers(out, stats.passes, indices, cpe, cpp, counts, inks)
+    print_stats(rt, stats)?;
+    print_buffers(rt, stats.passes, indices, cpe, cpp, counts, inks)
 }
 
-fn measure(out: &mut String, line: &[u8], g: Given, given: &[u8]) -> Result<(), AllocError> {
+fn measure(rt: &impl Print, line: &[u8], g: Given, given: &[u8]) -> io::Result<()> {
     let m = dbs::perceived_error(
         given::pixels(given, g),
         lines::number(line, 1),
@@ -133,18 +133,18 @@ fn measure(out: &mut String, line: &[u8], g: Given, given: &[u8]) -> Result<(), 
         lines::float(line, 4),
         lines::float(line, 5),
     );
-    print_measured(out, m)
+    print_measured(rt, m)
 }
 
 fn find(
-    out: &mut String,
+    rt: &impl Print,
     line: &[u8],
     g: Given,
     given: &[u8],
     cpe: &mut [f64],
     cpp: &mut [f64],
     inks: &mut [f64],
-) -> Result<(), AllocError> {
+) -> io::Result<()> {
     let cpe = lines::floats(line, 10, cpe, 0);
     let cpp = lines::floats(line, 11, cpp, 0);
     let inks = lines::floats(line, 13, inks, 0);
@@ -161,11 +161,11 @@ fn find(
         cpp,
         inks,
     );
-    print_found(out, f, cpe, cpp, inks)
+    print_found(rt, f, cpe, cpp, inks)
 }
 
 fn refine_in(
-    out: &mut String,
+    rt: &impl Print,
     text: &[u8],
     given: &mut [u8],
     indices: &mut [Index],
@@ -173,32 +173,32 @@ fn refine_in(
     cpp: &mut [f64],
     counts: &mut [u32],
     inks: &mut [f64],
-) -> Result<(), AllocError> {
+) -> io::Result<()> {
     let from = 0;
     let end = lines::line_end(text, from);
     let line = &text[from..end];
     let g = given::read_given(line, given);
-    refine(out, line, g, given, indices, cpe, cpp, counts, inks)?;
-    measure(out, line, g, given)
+    refine(rt, line, g, given, indices, cpe, cpp, counts, inks)?;
+    measure(rt, line, g, given)
 }
 
 fn find_in(
-    out: &mut String,
+    rt: &impl Print,
     text: &[u8],
     given: &mut [u8],
     cpe: &mut [f64],
     cpp: &mut [f64],
     inks: &mut [f64],
-) -> Result<(), AllocError> {
+) -> io::Result<()> {
     let from = 0;
     let end = lines::line_end(text, from);
     let line = &text[from..end];
     let g = given::read_given(line, given);
-    find(out, line, g, given, cpe, cpp, inks)
+    find(rt, line, g, given, cpe, cpp, inks)
 }
 
 // A call finds each cell of every buffer set.
-fn call_refine(out: &mut String, text: &[u8]) -> Result<(), AllocError> {
+fn call_refine(rt: &impl Print, text: &[u8]) -> io::Result<()> {
     let mut given = [255u8; 65536];
     let mut indices = [255u8; 16384];
     let mut cpe = [-1.0f64; 16384];
@@ -206,7 +206,7 @@ fn call_refine(out: &mut String, text: &[u8]) -> Result<(), AllocError> {
     let mut counts = [4294967295u32; 1024];
     let mut inks = [-1.0f64; 1024];
     refine_in(
-        out,
+        rt,
         text,
         &mut given,
         &mut indices,
@@ -217,15 +217,15 @@ fn call_refine(out: &mut String, text: &[u8]) -> Result<(), AllocError> {
     )
 }
 
-fn call_find(out: &mut String, text: &[u8]) -> Result<(), AllocError> {
+fn call_find(rt: &impl Print, text: &[u8]) -> io::Result<()> {
     let mut given = [255u8; 65536];
     let mut cpe = [-1.0f64; 16384];
     let mut cpp = [-1.0f64; 8500];
     let mut inks = [-1.0f64; 1024];
-    find_in(out, text, &mut given, &mut cpe, &mut cpp, &mut inks)
+    find_in(rt, text, &mut given, &mut cpe, &mut cpp, &mut inks)
 }
 
-pub fn call(out: &mut String, text: &[u8]) -> Result<(), AllocError> {
-    call_refine(out, text)?;
-    call_find(out, text)
+pub fn call(rt: &impl Print, text: &[u8]) -> io::Result<()> {
+    call_refine(rt, text)?;
+    call_find(rt, text)
 }

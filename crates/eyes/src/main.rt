@@ -10,8 +10,7 @@ ghost use Rattle.eye.specs.Eye.{eye_tests, KernelRadius};
 
 use base::CPP_CHROMA;
 use eye::DbsParams;
-use std::alloc::AllocError;
-use std::io;
+use std::io::{self, Print};
 
 const COUNT: usize = 63;
 
@@ -160,49 +159,47 @@ fn kernels(params: DbsParams, lum_radius: usize, chroma_radius: usize, cpp: &mut
     checksum::floats(h, &cpp[CPP_CHROMA..chroma_end])
 }
 
-fn two(out: &mut String, a: u64, b: u64) -> Result<(), AllocError> {
-    write!(out, " {a} {b}")
+fn two(rt: &impl Print, a: u64, b: u64) -> io::Result<()> {
+    print!(rt; " {a} {b}")
 }
 
 // What a line says of an eye.
-fn answer(out: &mut String, params: DbsParams, cpp: &mut [f64]) -> Result<(), AllocError>
+fn answer(rt: &impl Print, params: DbsParams, cpp: &mut [f64]) -> io::Result<()>
     requires { length cpp.old ≡ cpp_length }
 {
     let eye = params.validate();
     let status = eye.status;
     if status.number != 0 {
-        return two(out, status.number, status.place);
+        return two(rt, status.number, status.place);
     }
     let sum = kernels(params, eye.lum_radius, eye.chroma_radius, cpp);
-    two(out, eye.lum_radius as u64, eye.chroma_radius as u64)?;
-    write!(out, " {sum:08x}")
+    two(rt, eye.lum_radius as u64, eye.chroma_radius as u64)?;
+    print!(rt; " {sum:08x}")
 }
 
-fn line(out: &mut String, ppi: u64, distance: u64, cpp: &mut [f64]) -> Result<(), AllocError>
+fn line(rt: &impl Print, ppi: u64, distance: u64, cpp: &mut [f64]) -> io::Result<()>
     requires { length cpp.old ≡ cpp_length }
 {
-    write!(out, "{ppi:016x} {distance:016x}")?;
+    print!(rt; "{ppi:016x} {distance:016x}")?;
     let params = DbsParams {
         viewing_distance_cm: bits::to_float(distance),
         ppi: bits::to_float(ppi),
     };
-    answer(out, params, cpp)?;
-    out.push('\n')
+    answer(rt, params, cpp)?;
+    print!(rt; "\n")
 }
 
-fn lines(out: &mut String, cpp: &mut [f64]) -> Result<(), AllocError>
+fn lines(rt: &impl Print, cpp: &mut [f64]) -> io::Result<()>
     requires { length cpp.old ≡ cpp_length }
 {
     let eyes = EYES;
     for i in 0..COUNT {
-        line(out, eyes[2 * i], eyes[2 * i + 1], cpp)?;
+        line(rt, eyes[2 * i], eyes[2 * i + 1], cpp)?;
     }
     Ok(())
 }
 
 fn main(rt: HostRuntime) -> io::Result<()> {
     let mut cpp = [0.0f64; 8450];
-    let mut out = String::new(rt.alloc());
-    lines(&mut out, &mut cpp)?;
-    print!(rt; "{out}")
+    lines(&rt, &mut cpp)
 }

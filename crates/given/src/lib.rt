@@ -3,7 +3,7 @@
 #![tactic(auto)]
 
 use base::Status;
-use std::alloc::AllocError;
+use std::io::{self, Print};
 
 // Room for 16,384 of each, and where it begins.
 const ROOM: usize = 16384;
@@ -53,22 +53,20 @@ pub fn indices(given: &[u8], g: Given) -> &[u8] {
     lines::seen_span(given, INDICES, g.indices)
 }
 
-pub fn print_status(out: &mut String, name: &[u8], s: Status) -> Result<(), AllocError> {
-    for b in name {
-        out.push(char::from(*b))?;
-    }
-    lines::print_number(out, s.number)?;
-    lines::print_number(out, s.place)
+pub fn print_status(rt: &impl Print, name: &[u8], s: Status) -> io::Result<()> {
+    rt.write_all(name)?;
+    lines::print_number(rt, s.number)?;
+    lines::print_number(rt, s.place)
 }
 
-pub fn print_floats(out: &mut String, values: &[f64]) -> Result<(), AllocError> {
-    lines::print_sum(out, checksum::floats(0, values))
+pub fn print_floats(rt: &impl Print, values: &[f64]) -> io::Result<()> {
+    lines::print_sum(rt, checksum::floats(0, values))
 }
 
-pub fn print_bytes(out: &mut String, values: &[u8]) -> Result<(), AllocError> {
-    lines::print_sum(out, checksum::bytes(values))
+pub fn print_bytes(rt: &impl Print, values: &[u8]) -> io::Result<()> {
+    lines::print_sum(rt, checksum::bytes(values))
 }
 
-pub fn print_words(out: &mut String, values: &[u64]) -> Result<(), AllocError> {
-    lines::print_sum(out, checksum::words(values))
+pub fn print_words(rt: &impl Print, values: &[u64]) -> io::Result<()> {
+    lines::print_sum(rt, checksum::words(values))
 }

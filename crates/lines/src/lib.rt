@@ -5,7 +5,7 @@
 
 ghost use Rattle.std.specs.Prelude.{◌+◌, ◌^◌, ◌<◌, ◌≤◌, length};
 
-use std::alloc::AllocError;
+use std::io::{self, Print};
 
 // A byte of the text, a space past its end.
 pub fn byte_at(text: &[u8], i: usize) -> u8 {
@@ -285,12 +285,12 @@ pub fn read_part<'a>(line: &[u8], k: usize, buffer: &'a mut [u8]) -> &'a mut [u8
     &mut buffer[a..e]
 }
 
-pub fn space(out: &mut String) -> Result<(), AllocError> {
-    out.push(' ')
+pub fn space(rt: &impl Print) -> io::Result<()> {
+    print!(rt; " ")
 }
 
-fn print_byte(out: &mut String, b: u8) -> Result<(), AllocError> {
-    write!(out, "{b:02x}")
+fn print_byte(rt: &impl Print, b: u8) -> io::Result<()> {
+    print!(rt; "{b:02x}")
 }
 
 // Where the bytes end that are equal to the one here.
@@ -309,42 +309,42 @@ fn run_end(bytes: &[u8], from: usize) -> usize
 }
 
 // A byte n times.
-fn print_run(out: &mut String, b: u8, n: usize) -> Result<(), AllocError> {
+fn print_run(rt: &impl Print, b: u8, n: usize) -> io::Result<()> {
     if n >= 16 {
-        return write!(out, "{b:02x}x{n},");
+        return print!(rt; "{b:02x}x{n},");
     }
     for _ in 0..n {
-        print_byte(out, b)?;
+        print_byte(rt, b)?;
     }
     Ok(())
 }
 
-pub fn print_bytes(out: &mut String, bytes: &[u8]) -> Result<(), AllocError> {
+pub fn print_bytes(rt: &impl Print, bytes: &[u8]) -> io::Result<()> {
     if bytes.is_empty() {
-        return out.push('-');
+        return print!(rt; "-");
     }
     let mut at = 0;
     while at < bytes.len() {
         let end = run_end(bytes, at);
-        print_run(out, bytes[at], end - at)?;
+        print_run(rt, bytes[at], end - at)?;
         at = end;
     }
     Ok(())
 }
 
-pub fn print_number(out: &mut String, n: u64) -> Result<(), AllocError> {
-    write!(out, " {n}")
+pub fn print_number(rt: &impl Print, n: u64) -> io::Result<()> {
+    print!(rt; " {n}")
 }
 
-pub fn print_float(out: &mut String, x: f64) -> Result<(), AllocError> {
+pub fn print_float(rt: &impl Print, x: f64) -> io::Result<()> {
     let pattern = bits::of_float(x);
-    write!(out, " {pattern:016x}")
+    print!(rt; " {pattern:016x}")
 }
 
-pub fn print_sum(out: &mut String, sum: u64) -> Result<(), AllocError> {
-    write!(out, " {sum:08x}")
+pub fn print_sum(rt: &impl Print, sum: u64) -> io::Result<()> {
+    print!(rt; " {sum:08x}")
 }
 
-pub fn end_line(out: &mut String) -> Result<(), AllocError> {
-    out.push('\n')
+pub fn end_line(rt: &impl Print) -> io::Result<()> {
+    print!(rt; "\n")
 }

@@ -6,7 +6,7 @@ ghost use Rattle.std.specs.Prelude.{◌≤◌};
 
 use base::{Index, Status};
 use given::{INDICES, PINNED};
-use std::alloc::AllocError;
+use std::io::{self, Print};
 use work::DbsWorked;
 
 // The pixel of the copies' buffers at which a copy begins.
@@ -16,18 +16,14 @@ fn from(line: &[u8]) -> usize
     lines::clamp(lines::number(line, 2), 1024)
 }
 
-fn print_copy(
-    out: &mut String,
-    copy_cpe: &[f64],
-    copy_indices: &[Index],
-) -> Result<(), AllocError> {
-    given::print_floats(out, copy_cpe)?;
-    given::print_bytes(out, copy_indices)?;
-    lines::end_line(out)
+fn print_copy(rt: &impl Print, copy_cpe: &[f64], copy_indices: &[Index]) -> io::Result<()> {
+    given::print_floats(rt, copy_cpe)?;
+    given::print_bytes(rt, copy_indices)?;
+    lines::end_line(rt)
 }
 
 pub fn take(
-    out: &mut String,
+    rt: &impl Print,
     line: &[u8],
     given: &[u8],
     cpe: &[f64],
@@ -35,7 +31,7 @@ pub fn take(
     record: &[u64],
     copy_cpe: &mut [f64],
     copy_indices: &mut [Index],
-) -> Result<(), AllocError> {
+) -> io::Result<()> {
     let states = lines::part(line, 5, states, 0);
     let copy_cpe = lines::floats(line, 7, copy_cpe, 3 * from(line));
     let copy_indices = lines::part(line, 8, copy_indices, from(line));
@@ -48,21 +44,21 @@ pub fn take(
         copy_cpe,
         copy_indices,
     );
-    given::print_status(out, b"taken", s)?;
-    given::print_bytes(out, states)?;
-    print_copy(out, copy_cpe, copy_indices)
+    given::print_status(rt, b"taken", s)?;
+    given::print_bytes(rt, states)?;
+    print_copy(rt, copy_cpe, copy_indices)
 }
 
-fn print_worked(out: &mut String, w: DbsWorked) -> Result<(), AllocError> {
-    out.push_str("worked")?;
-    lines::print_number(out, w.number)?;
-    lines::print_number(out, w.place)?;
-    lines::print_number(out, w.accepted)?;
-    lines::print_float(out, w.delta)
+fn print_worked(rt: &impl Print, w: DbsWorked) -> io::Result<()> {
+    print!(rt; "worked")?;
+    lines::print_number(rt, w.number)?;
+    lines::print_number(rt, w.place)?;
+    lines::print_number(rt, w.accepted)?;
+    lines::print_float(rt, w.delta)
 }
 
 pub fn work(
-    out: &mut String,
+    rt: &impl Print,
     line: &[u8],
     given: &[u8],
     cpp: &[f64],
@@ -70,7 +66,7 @@ pub fn work(
     record: &[u64],
     copy_cpe: &mut [f64],
     copy_indices: &mut [Index],
-) -> Result<(), AllocError> {
+) -> io::Result<()> {
     let copy_cpe = lines::floats(line, 7, copy_cpe, 3 * from(line));
     let copy_indices = lines::part(line, 8, copy_indices, from(line));
     let w = dbs::dbs_work(
@@ -82,30 +78,30 @@ pub fn work(
         copy_indices,
         lines::seen_floats(line, 5, inks, 0),
     );
-    print_worked(out, w)?;
-    print_copy(out, copy_cpe, copy_indices)
+    print_worked(rt, w)?;
+    print_copy(rt, copy_cpe, copy_indices)
 }
 
 fn print_back(
-    out: &mut String,
+    rt: &impl Print,
     s: Status,
     indices: &[Index],
     cpe: &[f64],
     states: &[u8],
     deltas: &[f64],
     record: &[u64],
-) -> Result<(), AllocError> {
-    given::print_status(out, b"back", s)?;
-    given::print_bytes(out, indices)?;
-    given::print_floats(out, cpe)?;
-    given::print_bytes(out, states)?;
-    given::print_floats(out, deltas)?;
-    given::print_words(out, record)?;
-    lines::end_line(out)
+) -> io::Result<()> {
+    given::print_status(rt, b"back", s)?;
+    given::print_bytes(rt, indices)?;
+    given::print_floats(rt, cpe)?;
+    given::print_bytes(rt, states)?;
+    given::print_floats(rt, deltas)?;
+    given::print_words(rt, record)?;
+    lines::end_line(rt)
 }
 
 pub fn put_back(
-    out: &mut String,
+    rt: &impl Print,
     line: &[u8],
     given: &mut [u8],
     cpe: &mut [f64],
@@ -114,7 +110,7 @@ pub fn put_back(
     record: &mut [u64],
     copy_cpe: &[f64],
     copy_indices: &[Index],
-) -> Result<(), AllocError> {
+) -> io::Result<()> {
     let indices = lines::part(line, 5, given, INDICES);
     let cpe = lines::floats(line, 6, cpe, 0);
     let states = lines::part(line, 7, states, 0);
@@ -132,34 +128,29 @@ pub fn put_back(
         lines::number(line, 3),
         lines::float(line, 4),
     );
-    print_back(out, s, indices, cpe, states, deltas, record)
+    print_back(rt, s, indices, cpe, states, deltas, record)
 }
 
-pub fn recall(
-    out: &mut String,
-    line: &[u8],
-    states: &mut [u8],
-    record: &[u64],
-) -> Result<(), AllocError> {
+pub fn recall(rt: &impl Print, line: &[u8], states: &mut [u8], record: &[u64]) -> io::Result<()> {
     let states = lines::part(line, 2, states, 0);
     let s = dbs::dbs_recall(
         lines::seen_words(line, 3, record),
         lines::number(line, 1),
         states,
     );
-    given::print_status(out, b"recalled", s)?;
-    given::print_bytes(out, states)?;
-    lines::end_line(out)
+    given::print_status(rt, b"recalled", s)?;
+    given::print_bytes(rt, states)?;
+    lines::end_line(rt)
 }
 
 pub fn close(
-    out: &mut String,
+    rt: &impl Print,
     line: &[u8],
     counts: &mut [u32],
     states: &mut [u8],
     deltas: &[f64],
     record: &mut [u64],
-) -> Result<(), AllocError> {
+) -> io::Result<()> {
     let counts = lines::counts(line, 1, counts);
     let states = lines::part(line, 2, states, 0);
     let record = lines::words(line, 4, record);
@@ -169,11 +160,11 @@ pub fn close(
         states,
         lines::seen_floats(line, 3, deltas, 0),
     );
-    given::print_status(out, b"closed", s)?;
-    lines::print_sum(out, checksum::counts(counts))?;
-    given::print_bytes(out, states)?;
-    given::print_words(out, record)?;
-    lines::end_line(out)
+    given::print_status(rt, b"closed", s)?;
+    lines::print_sum(rt, checksum::counts(counts))?;
+    given::print_bytes(rt, states)?;
+    given::print_words(rt, record)?;
+    lines::end_line(rt)
 }
 
 // Word I of the record is set.

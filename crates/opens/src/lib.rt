@@ -4,10 +4,10 @@
 
 use base::Status;
 use given::Given;
-use std::alloc::AllocError;
+use std::io::{self, Print};
 
 fn print_opened(
-    out: &mut String,
+    rt: &impl Print,
     s: Status,
     cpe: &[f64],
     cpp: &[f64],
@@ -15,19 +15,19 @@ fn print_opened(
     states: &[u8],
     deltas: &[f64],
     record: &[u64],
-) -> Result<(), AllocError> {
-    given::print_status(out, b"opened", s)?;
-    given::print_floats(out, cpe)?;
-    given::print_floats(out, cpp)?;
-    given::print_floats(out, inks)?;
-    given::print_bytes(out, states)?;
-    given::print_floats(out, deltas)?;
-    given::print_words(out, record)?;
-    lines::end_line(out)
+) -> io::Result<()> {
+    given::print_status(rt, b"opened", s)?;
+    given::print_floats(rt, cpe)?;
+    given::print_floats(rt, cpp)?;
+    given::print_floats(rt, inks)?;
+    given::print_bytes(rt, states)?;
+    given::print_floats(rt, deltas)?;
+    given::print_words(rt, record)?;
+    lines::end_line(rt)
 }
 
 pub fn open(
-    out: &mut String,
+    rt: &impl Print,
     line: &[u8],
     g: Given,
     given: &[u8],
@@ -38,7 +38,7 @@ pub fn open(
     states: &mut [u8],
     deltas: &mut [f64],
     record: &mut [u64],
-) -> Result<(), AllocError> {
+) -> io::Result<()> {
     let cpe = lines::floats(line, 10, cpe, 0);
     let cpp = lines::floats(line, 11, cpp, 0);
     let inks = lines::floats(line, 13, inks, 0);
@@ -63,5 +63,5 @@ pub fn open(
         deltas,
         inks,
     );
-    print_opened(out, s, cpe, cpp, inks, states, deltas, record)
+    print_opened(rt, s, cpe, cpp, inks, states, deltas, record)
 }

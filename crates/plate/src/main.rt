@@ -3,47 +3,42 @@
 #![tactic(auto)]
 
 use base::Index;
-use std::alloc::AllocError;
-use std::io;
+use std::io::{self, Print};
 
-fn number(out: &mut String, n: u64) -> Result<(), AllocError> {
-    write!(out, " {n}")
+fn number(rt: &impl Print, n: u64) -> io::Result<()> {
+    print!(rt; " {n}")
 }
 
-fn print_index(out: &mut String, index: Index) -> Result<(), AllocError> {
-    number(out, u64::from(index))
+fn print_index(rt: &impl Print, index: Index) -> io::Result<()> {
+    number(rt, u64::from(index))
 }
 
-fn print_indices(out: &mut String, indices: &[Index]) -> Result<(), AllocError> {
-    out.push_str("indices")?;
+fn print_indices(rt: &impl Print, indices: &[Index]) -> io::Result<()> {
+    print!(rt; "indices")?;
     for index in indices {
-        print_index(out, *index)?;
+        print_index(rt, *index)?;
     }
-    out.push('\n')
+    print!(rt; "\n")
 }
 
 // The count of a pass, if it was run.
-fn print_count(out: &mut String, count: u32, pass: usize, passes: u64) -> Result<(), AllocError> {
+fn print_count(rt: &impl Print, count: u32, pass: usize, passes: u64) -> io::Result<()> {
     if pass as u64 >= passes {
         return Ok(());
     }
-    number(out, u64::from(count))
+    number(rt, u64::from(count))
 }
 
-fn print_accepted(
-    out: &mut String,
-    accepted_per_pass: &[u32],
-    passes: u64,
-) -> Result<(), AllocError> {
-    out.push_str("accepted")?;
+fn print_accepted(rt: &impl Print, accepted_per_pass: &[u32], passes: u64) -> io::Result<()> {
+    print!(rt; "accepted")?;
     for (pass, count) in accepted_per_pass.iter().enumerate() {
-        print_count(out, *count, pass, passes)?;
+        print_count(rt, *count, pass, passes)?;
     }
-    out.push('\n')
+    print!(rt; "\n")
 }
 
 fn refine_and_print(
-    out: &mut String,
+    rt: &impl Print,
     pixels: &[u8],
     palette: &[u8],
     indices: &mut [Index],
@@ -51,7 +46,7 @@ fn refine_and_print(
     cpp: &mut [f64],
     accepted_per_pass: &mut [u32],
     inks: &mut [f64],
-) -> Result<(), AllocError> {
+) -> io::Result<()> {
     let stats = dbs::dbs_refine(
         pixels,
         2,
@@ -68,11 +63,11 @@ fn refine_and_print(
         inks,
     );
     let passes = stats.passes;
-    print_indices(out, indices)?;
-    out.push_str("passes")?;
-    number(out, passes)?;
-    out.push('\n')?;
-    print_accepted(out, accepted_per_pass, passes)
+    print_indices(rt, indices)?;
+    print!(rt; "passes")?;
+    number(rt, passes)?;
+    print!(rt; "\n")?;
+    print_accepted(rt, accepted_per_pass, passes)
 }
 
 fn main(rt: HostRuntime) -> io::Result<()> {
@@ -82,9 +77,8 @@ fn main(rt: HostRuntime) -> io::Result<()> {
     let mut cpp = [0.0f64; 8450];
     let mut accepted_per_pass = [0u32; 10];
     let mut inks = [0.0f64; 6];
-    let mut out = String::new(rt.alloc());
     refine_and_print(
-        &mut out,
+        &rt,
         &colours,
         &colours,
         &mut indices,
@@ -92,6 +86,5 @@ fn main(rt: HostRuntime) -> io::Result<()> {
         &mut cpp,
         &mut accepted_per_pass,
         &mut inks,
-    )?;
-    print!(rt; "{out}")
+    )
 }

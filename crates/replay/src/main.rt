@@ -7,9 +7,7 @@
 ghost use Rattle.std.specs.Prelude.{◌<◌, ◌≤◌, length};
 
 use base::Index;
-use std::alloc::AllocError;
-use std::io;
-use std::io::Read;
+use std::io::{self, Print, Read};
 
 // A letter that tells the lines of a list apart: the first, or of word and work the last.
 fn kind(line: &[u8]) -> u8 {
@@ -22,7 +20,7 @@ fn kind(line: &[u8]) -> u8 {
 
 // Runs the lines of a list on lent buffers.
 fn list_in(
-    out: &mut String,
+    rt: &impl Print,
     text: &[u8],
     given: &mut [u8],
     cpe: &mut [f64],
@@ -34,7 +32,7 @@ fn list_in(
     record: &mut [u64],
     copy_cpe: &mut [f64],
     copy_indices: &mut [Index],
-) -> Result<(), AllocError> {
+) -> io::Result<()> {
     let mut at = 0;
     while at < text.len() {
         let end = lines::line_end(text, at);
@@ -44,22 +42,13 @@ fn list_in(
             b'o' => {
                 let g = given::read_given(line, given);
                 opens::open(
-                    out, line, g, given, cpe, cpp, counts, inks, states, deltas, record,
+                    rt, line, g, given, cpe, cpp, counts, inks, states, deltas, record,
                 )?;
             }
-            b't' => lists::take(
-                out,
-                line,
-                given,
-                cpe,
-                states,
-                record,
-                copy_cpe,
-                copy_indices,
-            )?,
-            b'k' => lists::work(out, line, given, cpp, inks, record, copy_cpe, copy_indices)?,
+            b't' => lists::take(rt, line, given, cpe, states, record, copy_cpe, copy_indices)?,
+            b'k' => lists::work(rt, line, given, cpp, inks, record, copy_cpe, copy_indices)?,
             b'p' => lists::put_back(
-                out,
+                rt,
                 line,
                 given,
                 cpe,
@@ -69,8 +58,8 @@ fn list_in(
                 copy_cpe,
                 copy_indices,
             )?,
-            b'r' => lists::recall(out, line, states, record)?,
-            b'c' => lists::close(out, line, counts, states, deltas, record)?,
+            b'r' => lists::recall(rt, line, states, record)?,
+            b'c' => lists::close(rt, line, counts, states, deltas, record)?,
             b'd' => lists::set_word(line, record),
             _ => lists::set_index(line, copy_indices),
         }
@@ -79,7 +68,7 @@ fn list_in(
 }
 
 // A list, which begins with an open, finds each cell of every buffer set.
-fn list(out: &mut String, text: &[u8]) -> Result<(), AllocError> {
+fn list(rt: &impl Print, text: &[u8]) -> io::Result<()> {
     let mut given = [255u8; 65536];
     let mut cpe = [-1.0f64; 1024];
     let mut cpp = [-1.0f64; 8500];
@@ -91,7 +80,7 @@ fn list(out: &mut String, text: &[u8]) -> Result<(), AllocError> {
     let mut copy_cpe = [-1.0f64; 3072];
     let mut copy_indices = [255u8; 1024];
     list_in(
-        out,
+        rt,
         text,
         &mut given,
         &mut cpe,
@@ -129,16 +118,16 @@ fn list_end(text: &[u8], from: usize) -> usize
     text.len()
 }
 
-fn all_lists(out: &mut String, text: &[u8]) -> Result<(), AllocError> {
+fn all_lists(rt: &impl Print, text: &[u8]) -> io::Result<()> {
     let mut at = 0;
     while at < text.len() {
         let end = list_end(text, at);
         let part = &text[at..end];
         at = end;
         if lines::byte_at(part, 0) == b'c' {
-            calls::call(out, part)?;
+            calls::call(rt, part)?;
         } else {
-            list(out, part)?;
+            list(rt, part)?;
         }
     }
     Ok(())
@@ -147,7 +136,5 @@ fn all_lists(out: &mut String, text: &[u8]) -> Result<(), AllocError> {
 fn main(rt: HostRuntime) -> io::Result<()> {
     let mut text = Vec::new(rt.alloc());
     rt.reader().read_to_end(&mut text)?;
-    let mut out = String::new(rt.alloc());
-    all_lists(&mut out, &text)?;
-    print!(rt; "{out}")
+    all_lists(&rt, &text)
 }

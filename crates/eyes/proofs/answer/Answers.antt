@@ -14,9 +14,9 @@ both_fit : (p : DbsParams) (e : Eye) → e ≡ eye_of p → judge (eye_tests p) 
 both_fit p e v ok = subst (λ (e : Eye). KernelRadius e.lum_radius × KernelRadius e.chroma_radius) (sym (v ∙ eye_radii p ok)) (radii_fit p ok)
 
 pub kernels-sum-requires-clause-params_value : goal.kernels-sum-requires-clause-params_value
-kernels-sum-requires-clause-params_value c = passes c.args.params c.validate-eye.result c.validate-eye.ensures c.if-status-ne0.false
+kernels-sum-requires-clause-params_value g c = passes c.args.params c.validate-eye.result c.validate-eye.ensures c.if-status-ne0.false
 
 pub kernels-sum-requires-clause-kernel_radius : goal.kernels-sum-requires-clause-kernel_radius
-kernels-sum-requires-clause-kernel_radius c =
+kernels-sum-requires-clause-kernel_radius g c =
     both_fit c.args.params c.validate-eye.result c.validate-eye.ensures
     (passes c.args.params c.validate-eye.result c.validate-eye.ensures c.if-status-ne0.false)
