@@ -1,7 +1,7 @@
 #!/usr/bin/env python3
 """Respells this repository's own definitions and lemmas as today's Rattle spells names: words in snake case.
 
-usage: python3 tools/respell.py    at the top of the repository, once, after /opt/rattle/port/port.py
+usage: python3 tools/respell.py    at the top of the repository, once, after port.py of the kit
 
 It goes by text, over specs/, proofs/, src/ and the names in backticks of README and docs/. Names that specs/ and proofs/*.antt declare are
 turned; names of functions, of types and modules, of C, strings and what programs read and write are not. A dash stays where it joins the names
