@@ -13,6 +13,7 @@ ghost use Rattle.job.specs.Work.{worked, work_of};
 
 use base::{Index, Status};
 use job::JobRecord;
+use search::Setup;
 
 // Moves accepted and the sum of their costs, or a refusal with zeros.
 #[repr(C)]
@@ -56,17 +57,14 @@ fn work(
     let t = plan.tiling;
     let region = tiling::region_rect(t, tile as usize);
     let rect = tiling::tile_rect(t, tile as usize);
-    let made = tile::refine_tile(
-        copy_cpe,
-        copy_indices,
+    let setup = Setup {
+        tiling: t,
+        count: plan.inks as usize,
         pinned,
         inks,
         cpp,
-        plan.inks as usize,
-        t,
-        region,
-        rect,
-    );
+    };
+    let made = tile::refine_tile(copy_cpe, copy_indices, setup, region, rect);
     DbsWorked {
         number: status.number,
         place: status.place,
