@@ -8,7 +8,6 @@ ghost use Rattle.accepted.specs.Accepted.{refinement, refine_accepted};
 
 use base::Index;
 use eye::DbsParams;
-use search::Setup;
 use tiling::Tiling;
 
 // Diagnostics of a run, or a refusal with zeros.
@@ -42,14 +41,18 @@ pub fn refine_accepted(
     ensures { refinement result indices.new cpe.new cpp.new accepted_per_pass.new inks.new ≡ refine_accepted (input t.width t.height pixels.now palette.now indices.old pinned.now params) (length accepted_per_pass.old) cpp.old accepted_per_pass.old }
 {
     let error = prepare::prepare(pixels, palette, indices, pinned, params, t, inks, cpp, cpe);
-    let setup = Setup {
-        tiling: t,
-        count: palette.len() / 3,
+    let count = palette.len() / 3;
+    let end = walk::refine_passes(
+        cpe,
+        indices,
         pinned,
         inks,
         cpp,
-    };
-    let end = walk::refine_passes(cpe, indices, setup, accepted_per_pass, error);
+        count,
+        t,
+        accepted_per_pass,
+        error,
+    );
     DbsStats {
         number: 0,
         place: 0,

@@ -9,10 +9,6 @@ use native.Mathlib.Omega.{arith}
 use borrow.Author.Tests.{eq-eqb, ne_eqb, eqb-true, eqb-false}
 use lib.Dec.{eqb}
 use Rattle.base.specs.declared.Status.{Status}
-use Rattle.base.specs.declared.Refusal.{Refusal}
-use Rattle.base.specs.declared.Refusal.TheVariants as rows
-use Rattle.std.proofs.Common.{Result, Ok, Err}
-use Rattle.base.specs.Answer.{number_and_place, Tested}
 use Rattle.base.specs.Refusal.{Test, judge, accepted, status, next, judge_from, Passes}
 use Rattle.base.proofs.RefusalLaws.{Numbered, judge_none, judge_pass, judge_fail, accepted_of, passes_of}
 
@@ -103,46 +99,3 @@ passes_of_zero (t ∷ ts) n e = go t.fails refl (passes_of_zero ts n.1)
 
 pub judge-zero : (ts : List Test) → Numbered ts → (judge ts).number ≡ 0 → judge ts ≡ accepted
 judge-zero ts n e = accepted_of ts (passes_of_zero ts n e)
-
--- ---- lists of tests one after the other, each until one fails, as code makes them
-
--- a refusal's number is not 0
-pub refusal_number : (r : Refusal) → 0 < (number_and_place r).number
-refusal_number rows.Size = omega arith
-refusal_number rows.Pixels = omega arith
-refusal_number rows.Indices = omega arith
-refusal_number rows.Mask = omega arith
-refusal_number rows.Palette = omega arith
-refusal_number (rows.Index place) = omega arith
-refusal_number rows.Ppi = omega arith
-refusal_number rows.Distance = omega arith
-refusal_number rows.LuminanceTooNarrow = omega arith
-refusal_number rows.ChrominanceTooWide = omega arith
-refusal_number rows.Passes = omega arith
-refusal_number (rows.Length buffer) = omega arith
-refusal_number rows.Record = omega arith
-refusal_number rows.NotDue = omega arith
-refusal_number rows.State = omega arith
-refusal_number (rows.Missing tile) = omega arith
-refusal_number rows.Finished = omega arith
-refusal_number (rows.MaskByte place) = omega arith
-
--- where one list has passed, the next is the judgement
-pub goes_on : (xs ys : List Test) → Numbered xs → accepted ≡ judge xs → judge ys ≡ judge (xs ++ ys)
-goes_on xs ys n e = sym (judge_append xs ys n ∙ rw (← e))
-
--- where one has refused, it is the judgement
-pub ends_at : (r : Refusal) (xs ys : List Test) → Numbered xs → number_and_place r ≡ judge xs → number_and_place r ≡ judge (xs ++ ys)
-ends_at r xs ys n e = sym (judge_append xs ys n ∙ rw (← e, ne_eqb (number_and_place r).number 0 (positive_ne (number_and_place r).number (refusal_number r))))
-
--- the same of code's answer
-pub tested_on : {A : Type 0} (r : Result A Refusal) (xs ys : List Test) (value : A) → Numbered xs → accepted ≡ judge xs → Tested r ys value → Tested r (xs ++ ys) value
-tested_on (Ok x) xs ys value n e h = (h.0 ∙ goes_on xs ys n e, h.1)
-tested_on (Err r) xs ys value n e h = h ∙ goes_on xs ys n e
-
--- a refusal is not 0, 0
-pub refusal_ne : (r : Refusal) → (number_and_place r).number ≡ 0 → ⊥
-refusal_ne r = positive_ne (number_and_place r).number (refusal_number r)
-
-pub refuses : (r : Refusal) (s : Status) → number_and_place r ≡ s → s ≡ accepted → ⊥
-refuses r s e a = refusal_ne r (ap (λ (s : Status). s.number) (e ∙ a))

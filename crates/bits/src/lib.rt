@@ -24,7 +24,7 @@ pub fn to_float(bits: u64) -> f64
     ensures { result ≡ of_bits binary64 bits }
 {
     if is_nan(bits) {
-        return f64::NAN;
+        return 0.0 / 0.0;
     }
     f64::from_bits(bits)
 }
@@ -33,5 +33,8 @@ pub fn to_float(bits: u64) -> f64
 pub fn of_float(x: f64) -> u64
     ensures { result ≡ to_bits binary64 x }
 {
-    if x.is_nan() { NAN } else { x.to_bits() }
+    if x == x {
+        return f64::to_bits(x);
+    }
+    NAN
 }

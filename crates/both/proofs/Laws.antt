@@ -26,13 +26,14 @@ use Rattle.spans.specs.Spans.{span_of, pair_span, Fits}
 use Rattle.spans.proofs.Laws.{length-add_at}
 use Rattle.sweep.specs.declared.Source.{Source}
 use Rattle.sweep.specs.Sweep.{Centred, first, past, footprint_of, sweep_pixel, sweep_of}
-use Rattle.sweep.specs.Part.{Part, RowSpan, pixel_of, row_of, part_of}
-use Rattle.sweep.proofs.Laws.{Axis, axis, whole_part, pixel_is, span_is}
+use Rattle.sweep.specs.Part.{Part, RowSpan, Steps, pixel_of, row_of, part_of}
+use Rattle.sweep.proofs.Laws.{Axis, axis, whole_part, pixel_is, span_is, below_is}
 use Rattle.sweep.proofs.Point.{has, has_is, has_yes, has_not, no_true, on, on_idle, Sized, Acts, Rows, acts_then, rows_then, row_of_lem, rows_at, acts, there, sweep_at, sized_sweep, footprint_within}
 use Rattle.both.specs.declared.Range.{Range}
 use Rattle.both.specs.declared.Shared.{Shared}
+use Rattle.both.specs.declared.Line.{Line}
 use Rattle.both.specs.declared.Rest.{Rest}
-use Rattle.both.specs.Both.{pair_row, share_row, share_of, lone_of, common_of, alone_of, Shares, Twins}
+use Rattle.both.specs.Both.{pair_row, share_row, share_of, line_of, line_below, lone_of, common_of, alone_of, Shares, Lined, LineFits, Twins}
 
 -- ---- along one axis: two ranges of neighbours
 
@@ -249,22 +250,57 @@ module _ (k : Kernel2D) (W : Rect) (m n : Source) (t : Twins W m n) where
   pub two_rows : Part k W n (alone_of G F (common_of F G)).rows
   two_rows = rows_part k W n G F two_part two_one one_two (common_of F G)
 
--- ---- row y of a swap
+-- ---- row y of a swap where it stands
 
--- where it stands: what both reach, by the one and by the other, and what each reaches alone
-module _ (h : Channels) (cpp : List Float) (k : Kernel2D) (W : Rect) (m n : Source) (S : Shared) (y : ℕ) (p : Shares k W m n S) (s o one two : Span)
-    (by_one : RowSpan k W m S.common y s) (by_two : RowSpan k W n S.common y o) (one_alone : RowSpan k W m S.one y one) (two_alone : RowSpan k W n S.two y two) where
-  both_at : (i : ℕ) (t : List Float) →
-      add_at h n.a (get_or cpp (o.from + i) nan) (s.at + 3 * i) (add_at h m.a (get_or cpp (s.from + i) nan) (s.at + 3 * i) t)
-      ≡ pixel_of h cpp k W n y (S.common.x0 + i) (pixel_of h cpp k W m y (S.common.x0 + i) t)
-  both_at i t = sym (pixel_is h cpp k W n S.common y p.by_two o by_two i _
-      ∙ rw (by_two.at_is, ← by_one.at_is, pixel_is h cpp k W m S.common y p.by_one s by_one i t))
+pub steps : (k : Kernel2D) (W : Rect) (m : Source) (C : Rect) → k.radius ≤ max_radius → Part k W m C → Steps k W
+steps k W m C few p = record { radius_limit = few; columns = omega (arith, p.left, p.columns, p.right); right_limit = p.right_limit }
 
-  pub share_row_is : (f : List Float) → span_of h n.a cpp two (span_of h m.a cpp one (pair_span h m.a n.a cpp s o f)) ≡ share_row h cpp k W m n S y f
-  unfolding pair_span share_row pair_row from_to
-  share_row_is f =
-      rw (span_is h cpp k W n S.two y p.two_alone two two_alone, span_is h cpp k W m S.one y p.one_alone one one_alone, by_one.pixels_are)
-      (ap (λ (g : List Float). row_of h cpp k W n S.two y (row_of h cpp k W m S.one y g)) (up_to_same (S.common.x1 - S.common.x0) _ _ f (λ i _ t. both_at i t)))
+module _ (k : Kernel2D) (W : Rect) (m n : Source) (S : Shared) (y : ℕ) (l : Line) (p : Shares k W m n S) (r : Lined k W m n S y l) where
+  -- it lies in the window and in the kernel
+  pub line-fits : (cpe cpp : ℕ) → 3 * area W ≤ cpe → k.from + cpp_chroma ≤ cpp → LineFits cpe cpp l
+  line-fits cpe cpp room store = record {
+    common = record { in_cpe = omega (arith, r.by_one.cpe_end, room); in_cpp = omega (arith, r.by_one.cpp_end, store) };
+    other = record { in_cpe = omega (arith, r.by_two.cpe_end, room); in_cpp = omega (arith, r.by_two.cpp_end, store) };
+    one = record { in_cpe = omega (arith, r.one_alone.cpe_end, room); in_cpp = omega (arith, r.one_alone.cpp_end, store) };
+    two = record { in_cpe = omega (arith, r.two_alone.cpe_end, room); in_cpp = omega (arith, r.two_alone.cpp_end, store) };
+    same = r.by_two.pixels_are ∙ sym r.by_one.pixels_are;
+    one_pixel = omega (arith, r.one_alone.pixels_are, p.one_column);
+    two_pixel = omega (arith, r.two_alone.pixels_are, p.two_column);
+  }
+
+  -- and in an image within the limits
+  pub line_low : LineFits (3 * max_pixels) cpp_length l
+  line_low = record {
+    common = record { in_cpe = r.by_one.cpe_limit; in_cpp = r.by_one.cpp_limit };
+    other = record { in_cpe = r.by_two.cpe_limit; in_cpp = r.by_two.cpp_limit };
+    one = record { in_cpe = r.one_alone.cpe_limit; in_cpp = r.one_alone.cpp_limit };
+    two = record { in_cpe = r.two_alone.cpe_limit; in_cpp = r.two_alone.cpp_limit };
+    same = r.by_two.pixels_are ∙ sym r.by_one.pixels_are;
+    one_pixel = omega (arith, r.one_alone.pixels_are, p.one_column);
+    two_pixel = omega (arith, r.two_alone.pixels_are, p.two_column);
+  }
+
+  -- what is added along it is the row
+  pub line_is : (h : Channels) (cpp f : List Float) → line_of h m.a n.a cpp l f ≡ share_row h cpp k W m n S y f
+  unfolding line_of pair_span share_row pair_row from_to
+  line_is h cpp f =
+      rw (span_is h cpp k W n S.two y p.two_alone l.two r.two_alone, span_is h cpp k W m S.one y p.one_alone l.one r.one_alone, r.by_one.pixels_are)
+      (ap (λ (g : List Float). row_of h cpp k W n S.two y (row_of h cpp k W m S.one y g)) (up_to_same (S.common.x1 - S.common.x0) _ _ f (λ i _ t. both_at h cpp i t)))
+    where
+      both_at : (h : Channels) (cpp : List Float) (i : ℕ) (t : List Float) →
+          add_at h n.a (get_or cpp (l.other.from + i) nan) (l.common.at + 3 * i) (add_at h m.a (get_or cpp (l.common.from + i) nan) (l.common.at + 3 * i) t)
+          ≡ pixel_of h cpp k W n y (S.common.x0 + i) (pixel_of h cpp k W m y (S.common.x0 + i) t)
+      both_at h cpp i t = sym (pixel_is h cpp k W n S.common y p.by_two l.other r.by_two i _
+          ∙ rw (r.by_two.at_is, ← r.by_one.at_is, pixel_is h cpp k W m S.common y p.by_one l.common r.by_one i t))
+
+  -- the row below
+  pub lined_below : k.radius ≤ max_radius → k.from ≤ cpp_chroma → S.common.y0 ≤ y → y + 1 < S.common.y1 → Lined k W m n S (y + 1) (line_below k W l)
+  lined_below few store low high = record {
+    by_one = below_is k W m S.common y p.by_one few low l.common r.by_one store high;
+    by_two = below_is k W n S.common y p.by_two few low l.other r.by_two store high;
+    one_alone = below_is k W m S.one y p.one_alone few (omega (arith, p.one_top, low)) l.one r.one_alone store (omega (arith, p.one_bottom, high));
+    two_alone = below_is k W n S.two y p.two_alone few (omega (arith, p.two_top, low)) l.two r.two_alone store (omega (arith, p.two_bottom, high));
+  }
 
 -- ---- one value, by the column and the row of its pixel
 

@@ -5,12 +5,15 @@ use Rattle.base.specs.declared.Rect.{Rect}
 use Rattle.base.specs.Loop.{from_to}
 use Rattle.base.specs.Grid.{Inside}
 use Rattle.base.specs.Limits.{max_side}
+use Rattle.color.specs.declared.YyCxCz.{YyCxCz}
 use Rattle.cpp.specs.declared.Kernel2D.{Kernel2D}
 use Rattle.spans.specs.declared.Channels.{Channels}
 use Rattle.sweep.specs.declared.Source.{Source}
-use Rattle.sweep.specs.Part.{Part, pixel_of, row_of}
+use Rattle.spans.specs.Spans.{span_of, pair_span, Fits}
+use Rattle.sweep.specs.Part.{Part, RowSpan, pixel_of, row_of, below_of}
 use Rattle.both.specs.declared.Range.{Range}
 use Rattle.both.specs.declared.Shared.{Shared}
+use Rattle.both.specs.declared.Line.{Line}
 use Rattle.both.specs.declared.Rest.{Rest}
 
 module _ (h : Channels) (cpp : List Float) (k : Kernel2D) (W : Rect) (m n : Source) where
@@ -24,6 +27,15 @@ module _ (h : Channels) (cpp : List Float) (k : Kernel2D) (W : Rect) (m n : Sour
 
   unfoldable pub share_of : Shared → List Float → List Float
   share_of S f = from_to S.common.y0 S.common.y1 (share_row S) f
+
+-- ---- the same by where it stands
+
+unfoldable pub line_of : Channels → YyCxCz → YyCxCz → List Float → Line → List Float → List Float
+line_of h a b cpp l f = span_of h b cpp l.two (span_of h a cpp l.one (pair_span h a b cpp l.common l.other f))
+
+-- a row further down
+abbrev pub line_below : Kernel2D → Rect → Line → Line
+line_below k W l = record { common = below_of k W l.common; other = below_of k W l.other; one = below_of k W l.one; two = below_of k W l.two }
 
 -- ---- the parts
 
@@ -56,6 +68,23 @@ pub record Shares (k : Kernel2D) (W : Rect) (m n : Source) (S : Shared) : Type 0
   pub one_bottom : S.one.y1 ≡ S.common.y1
   pub two_top : S.two.y0 ≡ S.common.y0
   pub two_bottom : S.two.y1 ≡ S.common.y1
+
+-- l is where row y of a swap stands
+pub record Lined (k : Kernel2D) (W : Rect) (m n : Source) (S : Shared) (y : ℕ) (l : Line) : Type 0 where
+  pub by_one : RowSpan k W m S.common y l.common
+  pub by_two : RowSpan k W n S.common y l.other
+  pub one_alone : RowSpan k W m S.one y l.one
+  pub two_alone : RowSpan k W n S.two y l.two
+
+-- a row of a swap lies in so many values of `cpe` and of the kernel store
+pub record LineFits (cpe cpp : ℕ) (l : Line) : Type 0 where
+  pub common : Fits cpe cpp l.common
+  pub other : Fits cpe cpp l.other
+  pub one : Fits cpe cpp l.one
+  pub two : Fits cpe cpp l.two
+  pub same : l.other.pixels ≡ l.common.pixels
+  pub one_pixel : l.one.pixels ≤ 1
+  pub two_pixel : l.two.pixels ≤ 1
 
 -- two sources in a window of an image within the limits, at most 1 apart both ways
 pub record Twins (W : Rect) (m n : Source) : Type 0 where

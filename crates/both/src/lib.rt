@@ -7,12 +7,13 @@ ghost use Rattle.base.specs.Grid.{area};
 ghost use Rattle.base.specs.Limits.{max_pixels, max_radius, cpp_chroma, cpp_length};
 ghost use Rattle.cpp.specs.Kernel.{KernelFits, lum_kernel, chroma_kernel};
 ghost use Rattle.sweep.specs.Sweep.{sweep_of, add_kernels};
-ghost use Rattle.both.specs.Both.{share_of, lone_of, common_of, alone_of, Shares, Twins};
+ghost use Rattle.sweep.specs.Part.{Steps};
+ghost use Rattle.both.specs.Both.{line_of, line_below, share_of, lone_of, common_of, alone_of, Shares, Lined, LineFits, Twins};
 
 use base::Rect;
 use color::YyCxCz;
 use cpp::Kernel2D;
-use spans::Channels;
+use spans::{Channels, Span};
 use sweep::Source;
 use tiling::Tiling;
 
@@ -31,6 +32,15 @@ pub struct Shared {
     pub two: Rect,
 }
 
+// Where a row of a swap stands: what both reach, by the one and by the other, and what each reaches alone.
+#[derive(Clone, Copy)]
+pub struct Line {
+    pub common: Span,
+    pub other: Span,
+    pub one: Span,
+    pub two: Span,
+}
+
 // What a kernel reaches alone: columns beside what both reach, and whole rows.
 #[derive(Clone, Copy)]
 pub struct Rest {
@@ -38,8 +48,46 @@ pub struct Rest {
     pub rows: Rect,
 }
 
+// A row of a swap: the pixels that both kernels reach, then the column of the one, then that of the other.
+fn share_row(cpe: &mut [f64], cpp: &[f64], channels: Channels, a: YyCxCz, b: YyCxCz, l: Line)
+    requires { LineFits (length cpe.old) (length cpp.now) l }
+    ensures { cpe.new ≡ line_of channels a b cpp.now l cpe.old }
+{
+    spans::add_spans(cpe, cpp, channels, a, b, l.common, l.other);
+    spans::add_pixel(cpe, cpp, channels, a, l.one);
+    spans::add_pixel(cpe, cpp, channels, b, l.two);
+}
+
+// Where row y of a swap stands.
+fn line_at(k: Kernel2D, w: Rect, m: Source, n: Source, s: Shared, y: usize) -> Line
+    requires radius_le_max_radius { (k.radius ≤ max_radius) × (k.from ≤ cpp_chroma) }
+    requires shares { Shares k w m n s }
+    requires y0_le_y { (s.common.y0 ≤ y) × (y < s.common.y1) }
+    ensures { Lined k w m n s y result }
+{
+    Line {
+        common: sweep::part_at(k, w, m, s.common, y),
+        other: sweep::part_at(k, w, n, s.common, y),
+        one: sweep::part_at(k, w, m, s.one, y),
+        two: sweep::part_at(k, w, n, s.two, y),
+    }
+}
+
+// The same a row further down.
+fn line_below(k: Kernel2D, w: Rect, l: Line) -> Line
+    requires steps { Steps k w }
+    requires line_fits { LineFits (3 * max_pixels) cpp_length l }
+    ensures { result ≡ line_below k w l }
+{
+    Line {
+        common: sweep::below(k, w, l.common),
+        other: sweep::below(k, w, l.other),
+        one: sweep::below(k, w, l.one),
+        two: sweep::below(k, w, l.two),
+    }
+}
+
 // The rows that both kernels reach.
-#[tactic(auto, using(base::proofs::LoopLaws::from_to_none, base::proofs::LoopLaws::from_to_more, crate::proofs::Laws::share_row_is), unfolding(crate::specs::Both::share_of))]
 fn share_rows(
     cpe: &mut [f64],
     cpp: &[f64],
@@ -55,27 +103,27 @@ fn share_rows(
     requires shares { Shares k w m n s }
     ensures { cpe.new ≡ share_of channels cpp.now k w m n s cpe.old }
 {
-    for y in s.common.y0..s.common.y1 {
-        let common = sweep::part_at(k, w, m, s.common, y);
-        let other = sweep::part_at(k, w, n, s.common, y);
-        spans::add_spans(cpe, cpp, channels, m.a, n.a, common, other);
-        spans::add_pixel(cpe, cpp, channels, m.a, sweep::part_at(k, w, m, s.one, y));
-        spans::add_pixel(cpe, cpp, channels, n.a, sweep::part_at(k, w, n, s.two, y));
+    let mut y = s.common.y0;
+    if y < s.common.y1 {
+        let mut l = line_at(k, w, m, n, s, y);
+        while y < s.common.y1 {
+            share_row(cpe, cpp, channels, m.a, n.a, l);
+            l = line_below(k, w, l);
+            y += 1;
+        }
     }
 }
 
 // Of the range from f up to p what the range from g up to q has not, where that is at most one side.
-#[tactic(auto, unfolding(crate::specs::Both::lone_of))]
 fn lone(f: usize, p: usize, g: usize, q: usize) -> Range
     ensures { result ≡ lone_of f p g q }
 {
     if f < g {
-        Range { lo: f, hi: g }
-    } else {
-        Range {
-            lo: p.min(q),
-            hi: p,
-        }
+        return Range { lo: f, hi: g };
+    }
+    Range {
+        lo: base::smaller(p, q),
+        hi: p,
     }
 }
 
@@ -84,10 +132,10 @@ fn common(f: Rect, g: Rect) -> Rect
     ensures { result ≡ common_of f g }
 {
     Rect {
-        x0: f.x0.max(g.x0),
-        y0: f.y0.max(g.y0),
-        x1: f.x1.min(g.x1),
-        y1: f.y1.min(g.y1),
+        x0: base::larger(f.x0, g.x0),
+        y0: base::larger(f.y0, g.y0),
+        x1: base::smaller(f.x1, g.x1),
+        y1: base::smaller(f.y1, g.y1),
     }
 }
 
@@ -154,7 +202,6 @@ fn sweep_both(
 }
 
 // Both kernels are added to `cpe` round m and then round n, each cut at the window.
-#[tactic(auto, using(sweep::proofs::Point::sized_sweep, crate::proofs::Laws::either_first), unfolding(sweep::specs::Sweep::add_kernels))]
 pub fn add_both(cpe: &mut [f64], cpp: &[f64], t: Tiling, w: Rect, m: Source, n: Source)
     requires kernel_fits { KernelFits (lum_kernel t) cpp.now }
     requires kernel_fits_2 { KernelFits (chroma_kernel t) cpp.now }

@@ -30,12 +30,14 @@ fn first_missing(r: JobRecord, tile_states: &[u8]) -> usize
     let plan = r.plan;
     let t = plan.tiling;
     let phase = r.phase as usize;
-    for (i, state) in tile_states.iter().enumerate() {
-        if is_missing(t, phase, i, *state) {
+    let mut i = 0;
+    while i < tile_states.len() {
+        if is_missing(t, phase, i, tile_states[i]) {
             return i;
         }
+        i += 1;
     }
-    tile_states.len()
+    i
 }
 
 // Refusals 16 and 11.

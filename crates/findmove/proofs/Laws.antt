@@ -5,18 +5,19 @@ use mathlib.Core.List.{List}
 use lib.ListN.{length}
 use lib.Ieee.{Float}
 use Rattle.base.specs.declared.Status.{Status}
-use Rattle.base.specs.declared.Refusal.{Refusal}
-use Rattle.base.specs.Answer.{number_and_place}
-use Rattle.base.specs.Refusal.{judge, accepted}
-use Rattle.base.proofs.JudgeLaws.{refuses}
+use Rattle.base.specs.Refusal.{judge, judge_from, accepted}
+use Rattle.base.proofs.JudgeLaws.{judge-zero}
 use Rattle.base.specs.Rows.{Judged}
 use Rattle.base.proofs.AnswerLaws.{Answers, answers, judged}
 use Rattle.tiling.specs.declared.Tiling.{Tiling}
-use Rattle.input.specs.Input.{Input, ink_count, find_tests}
+use Rattle.input.specs.Input.{Input, ink_count, find_run_tests, find_tests}
 use Rattle.input.specs.Valid.{ValidFind}
 use Rattle.input.specs.Rows.{find_rows}
 use Rattle.input.proofs.Validity.{find_numbered, find_passes}
 use Rattle.input.proofs.RowsOf.{find_rows_lem}
+use Rattle.sizes.specs.declared.Sizes.{Sizes}
+use Rattle.sizes.specs.Sizes.{sizes_of}
+use Rattle.sizes.proofs.Laws.{find_verdict, tiling_is}
 use Rattle.search.specs.Shared.{shared}
 use Rattle.prepare.specs.Prepare.{ReadyToPrepare, Built, tiling_of, shared_of}
 use Rattle.prepare.proofs.Laws.{sized, ready_to_prepare}
@@ -55,18 +56,28 @@ module _ (I : Input) (cpe cpp inks : List Float) where
   find_judged =
       judged find_answers (find_numbered I (length cpe) (length cpp) (length inks)) (find_passes I (length cpe) (length cpp) (length inks)) (find_rows_lem I (length cpe) (length cpp) (length inks))
 
-  pub refused_is : (r : Refusal) → number_and_place r ≡ verdict → refused (number_and_place r) cpe cpp inks ≡ find_of I cpe cpp inks
-  refused_is r e = ap (λ s. refused s cpe cpp inks) e ∙ sym (find_answers.keeps (refuses r _ e))
+  -- the sizes that were found, and the status that followed
+  module _ (S : Sizes) (q : S ≡ sizes_of I) (r : Status) (e : r ≡ judge_from S.status (find_run_tests S.field S.values (length cpe) (length cpp) (length inks))) where
+    verdict_is : r ≡ verdict
+    verdict_is = find_verdict I S q (length cpe) (length cpp) (length inks) r e
 
-  -- the tests passed, and the tiling that was found
-  module _ (T : Tiling) (ok : accepted ≡ verdict) (q : T ≡ tiling_of I) where
-    valid : ValidFind I (length cpe) (length cpp) (length inks)
-    valid = find_judged.accepts.0 (find_answers.told ∙ sym ok)
+    pub refused_is : (r.number ≡ 0 → ⊥) → refused r cpe cpp inks ≡ find_of I cpe cpp inks
+    refused_is n = ap (λ s. refused s cpe cpp inks) verdict_is ∙ sym (find_answers.keeps (λ a. n (ap (λ (s : Status). s.number) (verdict_is ∙ a))))
 
-    pub ready : ReadyToPrepare (sized I T) T (length inks) (length cpp) (length cpe)
-    ready = ready_to_prepare I T (length cpe) (length cpp) (length inks) q valid.valid valid.cpe_length valid.cpp_len valid.inks_length
+    module _ (z : r.number ≡ 0) where
+      passed : verdict ≡ accepted
+      passed = judge-zero _ (find_numbered I (length cpe) (length cpp) (length inks)) (ap (λ (s : Status). s.number) (sym verdict_is) ∙ z)
 
-    pub searched_is : (f : First) (cpe' cpp' inks' : List Float) → search f cpe' cpp' inks' ≡ search_accepted (sized I T) cpp →
-        finding (found_of (Searched f)) cpe' cpp' inks' ≡ find_of I cpe cpp inks
-    unfolding tiling_of
-    searched_is f cpe' cpp' inks' h = ap found (rw q at h) ∙ sym (find_answers.leaves (sym ok))
+      valid : ValidFind I (length cpe) (length cpp) (length inks)
+      valid = find_judged.accepts.0 (find_answers.told ∙ passed)
+
+      tiling : S.tiling ≡ tiling_of I
+      tiling = tiling_is I S q valid.valid
+
+      pub ready : ReadyToPrepare (sized I S.tiling) S.tiling (length inks) (length cpp) (length cpe)
+      ready = ready_to_prepare I S.tiling (length cpe) (length cpp) (length inks) tiling valid.valid valid.cpe_length valid.cpp_len valid.inks_length
+
+      pub searched_is : (f : First) (cpe' cpp' inks' : List Float) → search f cpe' cpp' inks' ≡ search_accepted (sized I S.tiling) cpp →
+          finding (found_of (Searched f)) cpe' cpp' inks' ≡ find_of I cpe cpp inks
+      unfolding tiling_of
+      searched_is f cpe' cpp' inks' h = ap found (rw tiling at h) ∙ sym (find_answers.leaves passed)

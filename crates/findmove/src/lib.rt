@@ -6,11 +6,10 @@ ghost use Rattle.input.specs.Input.{input};
 ghost use Rattle.prepare.specs.Prepare.{ReadyToPrepare};
 ghost use Rattle.findmove.specs.FindMove.{search, search_accepted, finding, find_of};
 
-use base::{Index, Status};
+use base::Index;
 use eye::DbsParams;
 use firstmove::First;
 use found::{Answer, DbsFound};
-use search::Setup;
 use tiling::Tiling;
 
 // An accepted input: ink values, kernels and field, and the search of a pass.
@@ -29,14 +28,7 @@ fn find_accepted(
     ensures { search result cpe.new cpp.new inks.new ≡ search_accepted (input t.width t.height pixels.now palette.now indices.now pinned.now params) cpp.old }
 {
     prepare::build(pixels, palette, indices, pinned, params, t, inks, cpp, cpe);
-    let setup = Setup {
-        tiling: t,
-        count: palette.len() / 3,
-        pinned,
-        inks,
-        cpp,
-    };
-    firstmove::first_in_pass(cpe, indices, setup)
+    firstmove::first_in_pass(cpe, indices, pinned, inks, cpp, palette.len() / 3, t)
 }
 
 // The first pixel, in the order of a whole pass, at which a move would be accepted.
@@ -54,23 +46,13 @@ pub fn find_move(
 ) -> DbsFound
     ensures { finding result cpe.new cpp.new inks.new ≡ find_of (input width height pixels.now palette.now indices.now pinned.now params) cpe.old cpp.old inks.old }
 {
-    let tiling = match sizes::check_find(
-        width,
-        height,
-        pixels,
-        palette,
-        indices,
-        pinned,
-        params,
-        cpe.len(),
-        cpp.len(),
-        inks.len(),
-    ) {
-        Ok(tiling) => tiling,
-        Err(refusal) => return found::found(Answer::Refused(Status::from(refusal))),
-    };
+    let s = sizes::check_sizes(width, height, pixels, palette, indices, pinned, params);
+    let status = sizes::check_find(s, cpe.len(), cpp.len(), inks.len());
+    if status.number != 0 {
+        return found::found(Answer::Refused(status));
+    }
     let first = find_accepted(
-        pixels, palette, indices, pinned, params, tiling, cpe, cpp, inks,
+        pixels, palette, indices, pinned, params, s.tiling, cpe, cpp, inks,
     );
     found::found(Answer::Searched(first))
 }

@@ -22,7 +22,8 @@ use Rattle.base.proofs.LoopLaws.{up_to_keeps, from_to_none, from_to_more}
 use Rattle.base.proofs.GridLaws.{place_lt, length-crop, cell-crop}
 use Rattle.tiling.specs.Tiling.{image}
 use Rattle.color.specs.Values.{values_at, less_of}
-use Rattle.std.specs.Prelude.{Option, Some, None}
+use Rattle.neighbour.specs.declared.Adjacent.{Adjacent}
+use Rattle.neighbour.specs.declared.Adjacent.TheVariants.{Pixel, Outside}
 use Rattle.search.specs.declared.Best.{Best}
 use Rattle.search.specs.declared.Site.{Site}
 use Rattle.search.specs.declared.Move.{Move}
@@ -119,9 +120,9 @@ module _ (S : Shared) (W : Rect) (cpe : List Float) (indices : List ℕ) (x y : 
       go j b q true = q
       go j b q false = better_fits b _ (Toggle j) q (unfold toggle_cost in add-fits binary64 _ _)
 
-  swap_fits : (code : ℕ) (b : Best) (a : Option (ℕ × ℕ)) → Fit b → Fit (swap_with S W cpe indices site code b a)
-  swap_fits code b (Some (nx, ny)) q = better_fits b _ (Swap code) q (unfold swap_cost in add-fits binary64 _ _)
-  swap_fits code b None q = q
+  swap_fits : (code : ℕ) (b : Best) (a : Adjacent) → Fit b → Fit (swap_with S W cpe indices site code b a)
+  swap_fits code b (Pixel nx ny) q = better_fits b _ (Swap code) q (unfold swap_cost in add-fits binary64 _ _)
+  swap_fits code b Outside q = q
 
   swaps_fit : (b : Best) → Fit b → Fit (swaps S W cpe indices x y site b)
   unfolding swaps try_swap
@@ -150,7 +151,7 @@ module _ (S : Shared) (W : Rect) (indices : List ℕ) (x y : ℕ) (room : length
   unfolding moved_indices put cell
   toggle_takes j n e = let c = count_less k indices (place 1 W x y 0) j (at_place x y i) refl n in omega arith
 
-  exchange_keeps : (nx ny : ℕ) → Inside W nx ny → index_at W indices nx ny ≢ k → count_of k (exchanged W x y (Some (nx, ny)) indices) ≡ count_of k indices
+  exchange_keeps : (nx ny : ℕ) → Inside W nx ny → index_at W indices nx ny ≢ k → count_of k (exchanged W x y (Pixel nx ny) indices) ≡ count_of k indices
   unfolding put cell
   exchange_keeps nx ny h n =
       let p = place 1 W x y 0 in

@@ -9,7 +9,7 @@ ghost use Rattle.std.specs.Float.{nan};
 ghost use Rattle.base.specs.Limits.{max_side, max_pixels};
 ghost use Rattle.base.specs.Grid.{area, crop};
 ghost use Rattle.tiling.specs.Tiling.{image};
-ghost use Rattle.search.specs.Shared.{shared_of, Ready};
+ghost use Rattle.search.specs.Shared.{shared, shared_of, Ready};
 ghost use Rattle.tile.specs.Tile.{state};
 ghost use Rattle.copy.specs.Part.{Holds};
 ghost use Rattle.firstmove.specs.Copies.{Part, Row, OnePixel, around as window, walked, count_of, told as telling};
@@ -107,44 +107,53 @@ fn fill_copy(
 fn walk_copy(
     cpe: &[f64],
     indices: &[Index],
-    s: Setup<'_>,
+    pinned: &[u8],
+    inks: &[f64],
+    cpp: &[f64],
+    g: Setup,
     w: Rect,
     q: Rect,
     copy_cpe: &mut [f64],
     copy_indices: &mut [Index],
 ) -> Progress
-    requires ready { Ready (shared_of s) (image s.tiling) (length cpe.now) indices.now }
-    requires part { Part s.tiling q × (w ≡ window s.tiling q) }
+    requires ready { Ready (shared_of g pinned.now inks.now cpp.now) (image g.tiling) (length cpe.now) indices.now }
+    requires part { Part g.tiling q × (w ≡ window g.tiling q) }
     requires copy_cpe_len { (length copy_cpe.old ≡ 3 * area w) × (length copy_indices.old ≡ area w) }
-    ensures { state copy_cpe.new copy_indices.new result ≡ walked (shared_of s.entry) cpe.now indices.now q }
+    ensures { state copy_cpe.new copy_indices.new result ≡ walked (shared_of g pinned.now inks.now cpp.now) cpe.now indices.now q }
 {
-    let t = s.tiling;
+    let t = g.tiling;
     fill_copy(cpe, indices, t, w, copy_cpe, copy_indices);
-    tile::refine_tile(copy_cpe, copy_indices, s, w, q)
+    tile::refine_tile(copy_cpe, copy_indices, pinned, inks, cpp, g.inks, t, w, q)
 }
 
 // Whether the walk over the row q accepts a move.
 fn row_moves(
     cpe: &[f64],
     indices: &[Index],
-    s: Setup<'_>,
+    pinned: &[u8],
+    inks: &[f64],
+    cpp: &[f64],
+    g: Setup,
     q: Rect,
     copy_cpe: &mut [f64],
     copy_indices: &mut [Index],
 ) -> bool
-    requires ready { Ready (shared_of s) (image s.tiling) (length cpe.now) indices.now }
-    requires row { Row s.tiling q }
+    requires ready { Ready (shared_of g pinned.now inks.now cpp.now) (image g.tiling) (length cpe.now) indices.now }
+    requires row { Row g.tiling q }
     requires copy_cpe_len { (length copy_cpe.old ≡ 621) × (length copy_indices.old ≡ 207) }
-    ensures { result ≡ not (eqb (walked (shared_of s.entry) cpe.now indices.now q).progress.accepted 0) }
+    ensures { result ≡ not (eqb (walked (shared_of g pinned.now inks.now cpp.now) cpe.now indices.now q).progress.accepted 0) }
 {
-    let w = around(s.tiling, q);
+    let w = around(g.tiling, q);
     let from = 0;
     let n = (w.y1 - w.y0) * (w.x1 - w.x0);
     let values = 3 * n;
     let p = walk_copy(
         cpe,
         indices,
-        s,
+        pinned,
+        inks,
+        cpp,
+        g,
         w,
         q,
         &mut copy_cpe[from..values],
@@ -178,22 +187,36 @@ fn count_ink(indices: &[Index], k: usize) -> usize
 fn pixel_move(
     cpe: &[f64],
     indices: &[Index],
-    s: Setup<'_>,
+    pinned: &[u8],
+    inks: &[f64],
+    cpp: &[f64],
+    g: Setup,
     w: Rect,
     q: Rect,
     copy_cpe: &mut [f64],
     copy_indices: &mut [Index],
 ) -> First
-    requires ready { Ready (shared_of s) (image s.tiling) (length cpe.now) indices.now }
-    requires one_pixel { OnePixel s.tiling q × (w ≡ window s.tiling q) }
+    requires ready { Ready (shared_of g pinned.now inks.now cpp.now) (image g.tiling) (length cpe.now) indices.now }
+    requires one_pixel { OnePixel g.tiling q × (w ≡ window g.tiling q) }
     requires copy_cpe_len { (length copy_cpe.old ≡ 3 * area w) × (length copy_indices.old ≡ area w) }
-    ensures { result ≡ move_at (shared_of s.entry) cpe.now indices.now q.x0 q.y0 }
+    ensures { result ≡ move_at (shared_of g pinned.now inks.now cpp.now) cpe.now indices.now q.x0 q.y0 }
 {
-    let t = s.tiling;
+    let t = g.tiling;
     let k = search::index_at(indices, tiling::image_rect(t), q.x0, q.y0);
     fill_copy(cpe, indices, t, w, copy_cpe, copy_indices);
     let ink = count_ink(copy_indices, k);
-    let p = walk_copy(cpe, indices, s, w, q, copy_cpe, copy_indices);
+    let p = walk_copy(
+        cpe,
+        indices,
+        pinned,
+        inks,
+        cpp,
+        g,
+        w,
+        q,
+        copy_cpe,
+        copy_indices,
+    );
     if p.accepted == 0 {
         return First::Nothing;
     }
@@ -205,16 +228,19 @@ fn pixel_move(
 fn move_at(
     cpe: &[f64],
     indices: &[Index],
-    s: Setup<'_>,
+    pinned: &[u8],
+    inks: &[f64],
+    cpp: &[f64],
+    g: Setup,
     x: usize,
     y: usize,
     copy_cpe: &mut [f64],
     copy_indices: &mut [Index],
 ) -> First
-    requires ready { Ready (shared_of s) (image s.tiling) (length cpe.now) indices.now }
-    requires x_lt_width { (x < s.tiling.width) × (y < s.tiling.height) }
+    requires ready { Ready (shared_of g pinned.now inks.now cpp.now) (image g.tiling) (length cpe.now) indices.now }
+    requires x_lt_width { (x < g.tiling.width) × (y < g.tiling.height) }
     requires copy_cpe_len { (length copy_cpe.old ≡ 621) × (length copy_indices.old ≡ 207) }
-    ensures { result ≡ move_at (shared_of s.entry) cpe.now indices.now x y }
+    ensures { result ≡ move_at (shared_of g pinned.now inks.now cpp.now) cpe.now indices.now x y }
 {
     let q = Rect {
         x0: x,
@@ -222,14 +248,17 @@ fn move_at(
         x1: x + 1,
         y1: y + 1,
     };
-    let w = around(s.tiling, q);
+    let w = around(g.tiling, q);
     let from = 0;
     let n = (w.y1 - w.y0) * (w.x1 - w.x0);
     let values = 3 * n;
     pixel_move(
         cpe,
         indices,
-        s,
+        pinned,
+        inks,
+        cpp,
+        g,
         w,
         q,
         &mut copy_cpe[from..values],
@@ -242,16 +271,19 @@ fn move_at(
 fn first_in_phase(
     cpe: &[f64],
     indices: &[Index],
-    s: Setup<'_>,
+    pinned: &[u8],
+    inks: &[f64],
+    cpp: &[f64],
+    g: Setup,
     phase: usize,
     copy_cpe: &mut [f64],
     copy_indices: &mut [Index],
 ) -> First
-    requires ready { Ready (shared_of s) (image s.tiling) (length cpe.now) indices.now }
+    requires ready { Ready (shared_of g pinned.now inks.now cpp.now) (image g.tiling) (length cpe.now) indices.now }
     requires copy_cpe_len { (length copy_cpe.old ≡ 621) × (length copy_indices.old ≡ 207) }
-    ensures { result ≡ first_in_phase (shared_of s.entry) cpe.now indices.now phase First.Nothing }
+    ensures { result ≡ first_in_phase (shared_of g pinned.now inks.now cpp.now) cpe.now indices.now phase First.Nothing }
 {
-    let t = s.tiling;
+    let t = g.tiling;
     let mut first = First::Nothing;
     'tiles: for tile in 0..tiling::tile_count(t) {
         if !tiling::is_in_phase(t, phase, tile) {
@@ -265,11 +297,32 @@ fn first_in_phase(
                 x1: q.x1,
                 y1: y + 1,
             };
-            if !row_moves(cpe, indices, s, row, copy_cpe, copy_indices) {
+            if !row_moves(
+                cpe,
+                indices,
+                pinned,
+                inks,
+                cpp,
+                g,
+                row,
+                copy_cpe,
+                copy_indices,
+            ) {
                 continue 'rows;
             }
             'columns: for x in q.x0..q.x1 {
-                let here = move_at(cpe, indices, s, x, y, copy_cpe, copy_indices);
+                let here = move_at(
+                    cpe,
+                    indices,
+                    pinned,
+                    inks,
+                    cpp,
+                    g,
+                    x,
+                    y,
+                    copy_cpe,
+                    copy_indices,
+                );
                 if is_move(here) {
                     first = here;
                     break 'tiles;
@@ -284,16 +337,29 @@ fn first_in_phase(
 fn first_in_phases(
     cpe: &[f64],
     indices: &[Index],
-    s: Setup<'_>,
+    pinned: &[u8],
+    inks: &[f64],
+    cpp: &[f64],
+    g: Setup,
     copy_cpe: &mut [f64],
     copy_indices: &mut [Index],
 ) -> First
-    requires ready { Ready (shared_of s) (image s.tiling) (length cpe.now) indices.now }
+    requires ready { Ready (shared_of g pinned.now inks.now cpp.now) (image g.tiling) (length cpe.now) indices.now }
     requires copy_cpe_len { (length copy_cpe.old ≡ 621) × (length copy_indices.old ≡ 207) }
-    ensures { result ≡ first_in_pass (shared_of s.entry) cpe.now indices.now }
+    ensures { result ≡ first_in_pass (shared_of g pinned.now inks.now cpp.now) cpe.now indices.now }
 {
     for phase in 0..4 {
-        let first = first_in_phase(cpe, indices, s, phase, copy_cpe, copy_indices);
+        let first = first_in_phase(
+            cpe,
+            indices,
+            pinned,
+            inks,
+            cpp,
+            g,
+            phase,
+            copy_cpe,
+            copy_indices,
+        );
         if is_move(first) {
             return first;
         }
@@ -302,11 +368,32 @@ fn first_in_phases(
 }
 
 // The first of the four phases of a pass.
-pub fn first_in_pass(cpe: &[f64], indices: &[Index], s: Setup<'_>) -> First
-    requires { Ready (shared_of s) (image s.tiling) (length cpe.now) indices.now }
-    ensures { result ≡ first_in_pass (shared_of s.entry) cpe.now indices.now }
+pub fn first_in_pass(
+    cpe: &[f64],
+    indices: &[Index],
+    pinned: &[u8],
+    inks: &[f64],
+    cpp: &[f64],
+    count: usize,
+    t: Tiling,
+) -> First
+    requires { Ready (shared t count pinned.now inks.now cpp.now) (image t) (length cpe.now) indices.now }
+    ensures { result ≡ first_in_pass (shared t count pinned.now inks.now cpp.now) cpe.now indices.now }
 {
+    let g = Setup {
+        tiling: t,
+        inks: count,
+    };
     let mut copy_cpe = [0.0f64; 3 * ROOM];
     let mut copy_indices = [0u8; ROOM];
-    first_in_phases(cpe, indices, s, &mut copy_cpe, &mut copy_indices)
+    first_in_phases(
+        cpe,
+        indices,
+        pinned,
+        inks,
+        cpp,
+        g,
+        &mut copy_cpe,
+        &mut copy_indices,
+    )
 }

@@ -74,8 +74,8 @@ pub fn autocorrelate(p: &[f64], r: usize, c: &mut [f64])
 {
     let radius = 2 * r;
     let size = 2 * radius + 1;
-    for (k, value) in c.iter_mut().enumerate() {
-        *value = correlation(p, r, k % size, k / size);
+    for k in 0..c.len() {
+        c[k] = correlation(p, r, k % size, k / size);
     }
 }
 

@@ -32,8 +32,8 @@ pub fn add_deltas(t: Tiling, phase: usize, deltas: &[f64], error: f64) -> f64
     ensures { result ≡ with_deltas t phase deltas.now (length deltas.now) error }
 {
     let mut e = error;
-    for (i, delta) in deltas.iter().enumerate() {
-        e = add_delta(t, phase, i, *delta, e);
+    for i in 0..deltas.len() {
+        e = add_delta(t, phase, i, deltas[i], e);
     }
     e
 }
@@ -55,8 +55,8 @@ pub fn release(t: Tiling, phase: usize, tile_states: &mut [u8])
     requires tile_states_len { length tile_states.old ≡ tiles t }
     ensures { tile_states.new ≡ released t phase tile_states.old }
 {
-    for (i, state) in tile_states.iter_mut().enumerate() {
-        *state = released_state(t, phase, i, *state);
+    for i in 0..tile_states.len() {
+        tile_states[i] = released_state(t, phase, i, tile_states[i]);
     }
 }
 

@@ -3,9 +3,9 @@
 
 ghost use Rattle.std.specs.Prelude.{◌≡◌, []};
 ghost use Rattle.input.specs.Input.{input};
-ghost use Rattle.perceived.specs.Perceived.{refusal, measure_of};
+ghost use Rattle.perceived.specs.Perceived.{measure_of};
 
-use base::{Index, Status};
+use base::Index;
 use eye::DbsParams;
 
 // The perceived error, or a refusal with a zero.
@@ -15,16 +15,6 @@ pub struct Measured {
     pub number: u64,
     pub place: u64,
     pub error: f64,
-}
-
-fn refused(s: Status) -> Measured
-    ensures { result ≡ refusal s }
-{
-    Measured {
-        number: s.number,
-        place: s.place,
-        error: 0.0,
-    }
 }
 
 // Perceived error of the indices; pins play no part.
@@ -40,10 +30,14 @@ pub fn measure(
 {
     // An empty mask: nothing is pinned.
     let none = &palette[..0];
-    if let Err(refusal) = input::check_input(
-        width, height, pixels, palette, indices, none, params,
-    ) {
-        return refused(Status::from(refusal));
+    let eye = input::check_input(width, height, pixels, palette, indices, none, params);
+    let status = eye.status;
+    if status.number != 0 {
+        return Measured {
+            number: status.number,
+            place: status.place,
+            error: 0.0,
+        };
     }
     Measured {
         number: 0,

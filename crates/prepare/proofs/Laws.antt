@@ -109,9 +109,9 @@ module _ (I : Input) (T : Tiling) (inks cpp₀ cpp : List Float) (t : T ≡ tili
   unfolding scene_of inks_of
   scene_fits_as ok = rw (t, i) (scene_fits I ok)
 
-  pub field_fits : judge (input_tests I) ≡ accepted → length cpp₀ ≡ cpp_length → FieldFits T T.width T.height (length cpp)
+  pub field_fits : judge (input_tests I) ≡ accepted → length cpp₀ ≡ cpp_length → FieldFits T (scene I.pixels I.indices I.pinned inks) cpp
   unfolding cpp_of
-  field_fits ok e = record { limits = rw t (limits I ok); width = refl; height = refl; store = rw k (cpp_len I ok cpp₀ e) }
+  field_fits ok e = record { limits = rw t (limits I ok); scene = scene_fits_as ok; store = rw k (cpp_len I ok cpp₀ e) }
 
 -- ---- what was built
 

@@ -2,14 +2,58 @@
 // the initial error of an accepted input, into lent buffers.
 #![tactic(auto)]
 
-ghost use Rattle.std.specs.Prelude.{length};
+ghost use Rattle.std.specs.Prelude.{◌≡◌, ◌*◌, length};
+ghost use Rattle.light.specs.Lut.{srgb_to_linear};
 ghost use Rattle.input.specs.Input.{input};
 ghost use Rattle.prepare.specs.Prepare.{ReadyToPrepare, Built, Prepared};
 
 use base::Index;
-use error::Scene;
 use eye::DbsParams;
 use tiling::Tiling;
+
+// Ink values, kernels and `cpe` into the lent buffers, with the table of light.
+fn build_with(
+    lut: &[u64; 256],
+    pixels: &[u8],
+    palette: &[u8],
+    indices: &[Index],
+    pinned: &[u8],
+    params: DbsParams,
+    t: Tiling,
+    inks: &mut [f64],
+    cpp: &mut [f64],
+    cpe: &mut [f64],
+)
+    requires lut_value { lut.now ≡ srgb_to_linear }
+    requires ready_to_prepare { ReadyToPrepare (input t.width t.height pixels.now palette.now indices.now pinned.now params) t (length inks.old) (length cpp.old) (length cpe.old) }
+    ensures { Built (input t.width t.height pixels.now palette.now indices.now pinned.now params) cpp.old inks.new cpp.new cpe.new }
+{
+    color::palette_to_inks(lut, palette, inks);
+    kernel::eye_kernels(params, cpp);
+    field::initial_field(lut, pixels, indices, pinned, inks, cpp, t, cpe);
+}
+
+fn prepare_with(
+    lut: &[u64; 256],
+    pixels: &[u8],
+    palette: &[u8],
+    indices: &[Index],
+    pinned: &[u8],
+    params: DbsParams,
+    t: Tiling,
+    inks: &mut [f64],
+    cpp: &mut [f64],
+    cpe: &mut [f64],
+) -> f64
+    requires lut_value { lut.now ≡ srgb_to_linear }
+    requires ready_to_prepare { ReadyToPrepare (input t.width t.height pixels.now palette.now indices.now pinned.now params) t (length inks.old) (length cpp.old) (length cpe.old) }
+    ensures { Prepared (input t.width t.height pixels.now palette.now indices.now pinned.now params) cpp.old inks.new cpp.new cpe.new result }
+{
+    build_with(
+        lut, pixels, palette, indices, pinned, params, t, inks, cpp, cpe,
+    );
+    error::initial_error(lut, pixels, indices, pinned, inks, cpe, t)
+}
 
 // Ink values, kernels and `cpe` into the lent buffers.
 pub fn build(
@@ -26,17 +70,10 @@ pub fn build(
     requires { ReadyToPrepare (input t.width t.height pixels.now palette.now indices.now pinned.now params) t (length inks.old) (length cpp.old) (length cpe.old) }
     ensures { Built (input t.width t.height pixels.now palette.now indices.now pinned.now params) cpp.old inks.new cpp.new cpe.new }
 {
-    color::palette_to_inks(palette, inks);
-    kernel::eye_kernels(params, cpp);
-    let scene = Scene {
-        width: t.width,
-        height: t.height,
-        pixels,
-        indices,
-        pinned,
-        inks,
-    };
-    field::initial_field(&scene, cpp, t, cpe);
+    let lut = light::srgb_to_linear_lut();
+    build_with(
+        &lut, pixels, palette, indices, pinned, params, t, inks, cpp, cpe,
+    );
 }
 
 // The same; the answer is the initial error.
@@ -54,14 +91,8 @@ pub fn prepare(
     requires { ReadyToPrepare (input t.width t.height pixels.now palette.now indices.now pinned.now params) t (length inks.old) (length cpp.old) (length cpe.old) }
     ensures { Prepared (input t.width t.height pixels.now palette.now indices.now pinned.now params) cpp.old inks.new cpp.new cpe.new result }
 {
-    build(pixels, palette, indices, pinned, params, t, inks, cpp, cpe);
-    let scene = Scene {
-        width: t.width,
-        height: t.height,
-        pixels,
-        indices,
-        pinned,
-        inks,
-    };
-    scene.initial_error(cpe, t)
+    let lut = light::srgb_to_linear_lut();
+    prepare_with(
+        &lut, pixels, palette, indices, pinned, params, t, inks, cpp, cpe,
+    )
 }

@@ -38,30 +38,25 @@ pub fn refine(
 ) -> DbsStats
     ensures { refinement result indices.new cpe.new cpp.new accepted_per_pass.new inks.new ≡ refine_of (input width height pixels.now palette.now indices.old pinned.now params) max_passes cpe.old cpp.old accepted_per_pass.old inks.old }
 {
-    let tiling = match sizes::check_refine(
-        width,
-        height,
-        pixels,
-        palette,
-        indices,
-        pinned,
-        params,
+    let s = sizes::check_sizes(width, height, pixels, palette, indices, pinned, params);
+    let status = sizes::check_refine(
+        s,
         max_passes,
         cpe.len(),
         cpp.len(),
         accepted_per_pass.len(),
         inks.len(),
-    ) {
-        Ok(tiling) => tiling,
-        Err(refusal) => return refused(Status::from(refusal)),
-    };
+    );
+    if status.number != 0 {
+        return refused(status);
+    }
     accepted::refine_accepted(
         pixels,
         palette,
         indices,
         pinned,
         params,
-        tiling,
+        s.tiling,
         cpe,
         cpp,
         accepted_per_pass,

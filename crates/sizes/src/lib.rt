@@ -1,31 +1,47 @@
-// All refusals of refine, find_move and open: 1 to 9, which give the sizes of an accepted input, and then 10 and 11, of the passes
-// allowed and the buffers lent, which are held to these sizes.
+// The sizes of an accepted input, and refusals 10 and 11, of the passes allowed and the buffers lent, which are
+// held to them. They follow 1 to 9: where one of those applies it stays the answer.
 #![tactic(auto)]
 
-ghost use Rattle.std.specs.Prelude.{◌≡◌, [], ◌∷◌};
-ghost use Rattle.base.specs.Refusal.{judge};
-ghost use Rattle.base.specs.Limits.{cpp_length};
-ghost use Rattle.base.specs.Answer.{status_of, Tested};
-ghost use Rattle.input.specs.Input.{input, input_tests, run_tests, refine_run_tests, open_run_tests, find_run_tests, refine_tests, open_tests, find_tests, length_test};
-ghost use Rattle.tiling.specs.Tiling.{tiles};
-ghost use Rattle.sizes.specs.Sizes.{tiling_of, sizes_of};
+ghost use Rattle.std.specs.Prelude.{◌≡◌};
+ghost use Rattle.base.specs.Refusal.{judge_from};
+ghost use Rattle.input.specs.Input.{input, run_tests, refine_run_tests, open_run_tests, find_run_tests};
+ghost use Rattle.sizes.specs.Sizes.{no_sizes, sizes_of};
 
-use base::{Buffer, CPP_LEN, Index, MAX_PASSES, Refusal, refuse_if};
+use base::{CPP_LEN, Index, MAX_PASSES, Status};
 use eye::DbsParams;
-use input::check_length;
+use input::next_length;
 use tiling::Tiling;
 
-// The tiling of an input, its number of tiles, and the lengths of its field and of its ink values.
+// The tiling of an input, its number of tiles, and the lengths of its field and of its ink values; zeros where it is refused.
 #[derive(Clone, Copy)]
-struct Sizes {
+pub struct Sizes {
+    pub status: Status,
     pub tiling: Tiling,
     pub tiles: usize,
     pub field: usize,
     pub values: usize,
 }
 
+fn refused(status: Status) -> Sizes
+    ensures { result ≡ no_sizes status }
+{
+    let tiling = Tiling {
+        width: 0,
+        height: 0,
+        lum: 0,
+        chroma: 0,
+    };
+    Sizes {
+        status,
+        tiling,
+        tiles: 0,
+        field: 0,
+        values: 0,
+    }
+}
+
 // Refusals 1 to 9, and the sizes where none applies.
-fn check_sizes(
+pub fn check_sizes(
     width: u64,
     height: u64,
     pixels: &[u8],
@@ -33,156 +49,72 @@ fn check_sizes(
     indices: &[Index],
     pinned: &[u8],
     params: DbsParams,
-) -> Result<Sizes, Refusal>
-    ensures { Tested result (input_tests (input width height pixels.now palette.now indices.now pinned.now params)) (sizes_of (input width height pixels.now palette.now indices.now pinned.now params)) }
+) -> Sizes
+    ensures { result ≡ sizes_of (input width height pixels.now palette.now indices.now pinned.now params) }
 {
-    let eye = input::check_input(width, height, pixels, palette, indices, pinned, params)?;
+    let eye = input::check_input(width, height, pixels, palette, indices, pinned, params);
+    let status = eye.status;
+    if status.number != 0 {
+        return refused(status);
+    }
     let tiling = Tiling {
         width: width as usize,
         height: height as usize,
         lum: eye.lum_radius,
         chroma: eye.chroma_radius,
     };
-    Ok(Sizes {
+    Sizes {
+        status,
         tiling,
         tiles: tiling::tile_count(tiling),
         field: 3 * (tiling.height * tiling.width),
         values: 3 * (palette.len() / 3),
-    })
-}
-
-// Refusal 11 of buffers 1 and 2.
-#[tactic(auto, unfolding(base::specs::Refusal::judge))]
-fn check_field(s: Sizes, cpe_len: usize, cpp_len: usize) -> Result<(), Refusal>
-    ensures { status_of result ≡ judge (length_test 1 cpe_len s.field ∷ length_test 2 cpp_len cpp_length ∷ []) }
-{
-    check_length(Buffer::Cpe, cpe_len, s.field)?;
-    check_length(Buffer::Cpp, cpp_len, CPP_LEN)
+    }
 }
 
 // Refusal 10, and 11 of buffers 1 to 3.
-#[tactic(auto, unfolding(input::specs::Input::run_tests, base::specs::Refusal::judge))]
 fn check_run(
     s: Sizes,
     max_passes: u64,
     cpe_len: usize,
     cpp_len: usize,
     accepted_per_pass_len: usize,
-) -> Result<(), Refusal>
-    ensures { status_of result ≡ judge (run_tests max_passes s.field cpe_len cpp_len accepted_per_pass_len) }
+) -> Status
+    ensures { result ≡ judge_from s.status (run_tests max_passes s.field cpe_len cpp_len accepted_per_pass_len) }
 {
-    refuse_if(max_passes > MAX_PASSES as u64, Refusal::Passes)?;
-    check_field(s, cpe_len, cpp_len)?;
-    check_length(
-        Buffer::AcceptedPerPass,
-        accepted_per_pass_len,
-        max_passes as usize,
-    )
+    let s1 = base::next(s.status, max_passes > MAX_PASSES as u64, 10, 0);
+    let s2 = next_length(s1, 1, cpe_len, s.field);
+    let s3 = next_length(s2, 2, cpp_len, CPP_LEN);
+    next_length(s3, 3, accepted_per_pass_len, max_passes as usize)
 }
 
-// Refusals 10 and 11 of refine, of an input of these sizes.
-#[tactic(auto, unfolding(input::specs::Input::refine_run_tests, input::specs::Input::run_tests, base::specs::Refusal::judge))]
-fn check_refine_run(
-    s: Sizes,
-    max_passes: u64,
-    cpe_len: usize,
-    cpp_len: usize,
-    accepted_per_pass_len: usize,
-    inks_len: usize,
-) -> Result<(), Refusal>
-    ensures { status_of result ≡ judge (refine_run_tests max_passes s.field s.values cpe_len cpp_len accepted_per_pass_len inks_len) }
-{
-    check_run(s, max_passes, cpe_len, cpp_len, accepted_per_pass_len)?;
-    check_length(Buffer::Inks, inks_len, s.values)
-}
-
-// Refusal 11 of find_move, of an input of these sizes; it is given no passes and no counts.
-#[tactic(auto, unfolding(input::specs::Input::find_run_tests, base::specs::Refusal::judge))]
-fn check_find_run(s: Sizes, cpe_len: usize, cpp_len: usize, inks_len: usize) -> Result<(), Refusal>
-    ensures { status_of result ≡ judge (find_run_tests s.field s.values cpe_len cpp_len inks_len) }
-{
-    check_field(s, cpe_len, cpp_len)?;
-    check_length(Buffer::Inks, inks_len, s.values)
-}
-
-// Refusals 10 and 11 of open, of an input of these sizes.
-#[tactic(auto, unfolding(input::specs::Input::open_run_tests, input::specs::Input::run_tests, base::specs::Refusal::judge))]
-fn check_open_run(
-    s: Sizes,
-    max_passes: u64,
-    cpe_len: usize,
-    cpp_len: usize,
-    accepted_per_pass_len: usize,
-    tile_states_len: usize,
-    deltas_len: usize,
-    inks_len: usize,
-) -> Result<(), Refusal>
-    ensures { status_of result ≡ judge (open_run_tests max_passes s.field s.values s.tiles cpe_len cpp_len accepted_per_pass_len tile_states_len deltas_len inks_len) }
-{
-    check_run(s, max_passes, cpe_len, cpp_len, accepted_per_pass_len)?;
-    check_length(Buffer::TileStates, tile_states_len, s.tiles)?;
-    check_length(Buffer::Deltas, deltas_len, s.tiles)?;
-    check_length(Buffer::Inks, inks_len, s.values)
-}
-
-// All refusals of refine, and the tiling where none applies.
+// Refusals 10 and 11 of refine.
 pub fn check_refine(
-    width: u64,
-    height: u64,
-    pixels: &[u8],
-    palette: &[u8],
-    indices: &[Index],
-    pinned: &[u8],
-    params: DbsParams,
+    s: Sizes,
     max_passes: u64,
     cpe_len: usize,
     cpp_len: usize,
     accepted_per_pass_len: usize,
     inks_len: usize,
-) -> Result<Tiling, Refusal>
-    ensures { Tested result (refine_tests (input width height pixels.now palette.now indices.now pinned.now params) max_passes cpe_len cpp_len accepted_per_pass_len inks_len) (tiling_of (input width height pixels.now palette.now indices.now pinned.now params)) }
+) -> Status
+    ensures { result ≡ judge_from s.status (refine_run_tests max_passes s.field s.values cpe_len cpp_len accepted_per_pass_len inks_len) }
 {
-    let s = check_sizes(width, height, pixels, palette, indices, pinned, params)?;
-    check_refine_run(
-        s,
-        max_passes,
-        cpe_len,
-        cpp_len,
-        accepted_per_pass_len,
-        inks_len,
-    )?;
-    Ok(s.tiling)
+    let run = check_run(s, max_passes, cpe_len, cpp_len, accepted_per_pass_len);
+    next_length(run, 8, inks_len, s.values)
 }
 
-// All refusals of find_move, and the tiling where none applies.
-pub fn check_find(
-    width: u64,
-    height: u64,
-    pixels: &[u8],
-    palette: &[u8],
-    indices: &[Index],
-    pinned: &[u8],
-    params: DbsParams,
-    cpe_len: usize,
-    cpp_len: usize,
-    inks_len: usize,
-) -> Result<Tiling, Refusal>
-    ensures { Tested result (find_tests (input width height pixels.now palette.now indices.now pinned.now params) cpe_len cpp_len inks_len) (tiling_of (input width height pixels.now palette.now indices.now pinned.now params)) }
+// Refusal 11 of find_move, which is given no passes and no counts.
+pub fn check_find(s: Sizes, cpe_len: usize, cpp_len: usize, inks_len: usize) -> Status
+    ensures { result ≡ judge_from s.status (find_run_tests s.field s.values cpe_len cpp_len inks_len) }
 {
-    let found = check_sizes(width, height, pixels, palette, indices, pinned, params)?;
-    check_find_run(found, cpe_len, cpp_len, inks_len)?;
-    Ok(found.tiling)
+    let s1 = next_length(s.status, 1, cpe_len, s.field);
+    let s2 = next_length(s1, 2, cpp_len, CPP_LEN);
+    next_length(s2, 8, inks_len, s.values)
 }
 
-// All refusals of open, and the tiling where none applies.
+// Refusals 10 and 11 of open.
 pub fn check_open(
-    width: u64,
-    height: u64,
-    pixels: &[u8],
-    palette: &[u8],
-    indices: &[Index],
-    pinned: &[u8],
-    params: DbsParams,
+    s: Sizes,
     max_passes: u64,
     cpe_len: usize,
     cpp_len: usize,
@@ -190,19 +122,11 @@ pub fn check_open(
     tile_states_len: usize,
     deltas_len: usize,
     inks_len: usize,
-) -> Result<Tiling, Refusal>
-    ensures { Tested result (open_tests (input width height pixels.now palette.now indices.now pinned.now params) max_passes (tiles (tiling_of (input width height pixels.now palette.now indices.now pinned.now params))) cpe_len cpp_len accepted_per_pass_len tile_states_len deltas_len inks_len) (tiling_of (input width height pixels.now palette.now indices.now pinned.now params)) }
+) -> Status
+    ensures { result ≡ judge_from s.status (open_run_tests max_passes s.field s.values s.tiles cpe_len cpp_len accepted_per_pass_len tile_states_len deltas_len inks_len) }
 {
-    let s = check_sizes(width, height, pixels, palette, indices, pinned, params)?;
-    check_open_run(
-        s,
-        max_passes,
-        cpe_len,
-        cpp_len,
-        accepted_per_pass_len,
-        tile_states_len,
-        deltas_len,
-        inks_len,
-    )?;
-    Ok(s.tiling)
+    let run = check_run(s, max_passes, cpe_len, cpp_len, accepted_per_pass_len);
+    let s1 = next_length(run, 4, tile_states_len, s.tiles);
+    let s2 = next_length(s1, 5, deltas_len, s.tiles);
+    next_length(s2, 8, inks_len, s.values)
 }

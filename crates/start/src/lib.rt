@@ -1,14 +1,21 @@
 // Open, on a record: everything up to the walk, and a job at its start. `prepare` is also the first half of refining.
 #![tactic(auto)]
 
-ghost use Rattle.std.specs.Prelude.{◌≡◌};
+ghost use Rattle.std.specs.Prelude.{◌≡◌, length, replicate};
+ghost use Rattle.base.specs.F64.{f0};
 ghost use Rattle.input.specs.Input.{input};
 ghost use Rattle.job.specs.Open.{opening, opened, open_of};
 
-use base::{Index, Status};
+use base::Index;
 use eye::DbsParams;
 use job::{JobRecord, Plan};
 use words::Answer;
+
+fn clear_deltas(deltas: &mut [f64])
+    ensures { deltas.new ≡ replicate (length deltas.old) f0 }
+{
+    base::fill_zero(deltas);
+}
 
 // Open a job.
 pub fn open(
@@ -29,14 +36,9 @@ pub fn open(
 ) -> Answer
     ensures { opened result.status result.record cpe.new cpp.new tile_states.new deltas.new inks.new ≡ open_of (opening (input width height pixels.now palette.now indices.now pinned.now params) max_passes cpe.old cpp.old accepted_per_pass.now tile_states.old deltas.old inks.old) }
 {
-    let tiling = match sizes::check_open(
-        width,
-        height,
-        pixels,
-        palette,
-        indices,
-        pinned,
-        params,
+    let s = sizes::check_sizes(width, height, pixels, palette, indices, pinned, params);
+    let status = sizes::check_open(
+        s,
         max_passes,
         cpe.len(),
         cpp.len(),
@@ -44,12 +46,13 @@ pub fn open(
         tile_states.len(),
         deltas.len(),
         inks.len(),
-    ) {
-        Ok(tiling) => tiling,
-        Err(refusal) => return words::refused(Status::from(refusal)),
-    };
+    );
+    if status.number != 0 {
+        return words::refused(status);
+    }
+    let tiling = s.tiling;
     states::clear(tile_states);
-    deltas.fill(0.0);
+    clear_deltas(deltas);
     let error = prepare::prepare(
         pixels, palette, indices, pinned, params, tiling, inks, cpp, cpe,
     );
@@ -67,8 +70,5 @@ pub fn open(
         error,
         finished: max_passes == 0,
     };
-    Answer {
-        status: base::ok(),
-        record,
-    }
+    Answer { status, record }
 }

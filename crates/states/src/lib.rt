@@ -22,7 +22,6 @@ pub fn state_byte(state: TileState) -> u8
 fn tile_state(byte: u8) -> TileState
     ensures { result ≡ state_of byte }
 {
-    // Kept: a match on numbers would leave nothing to its last arm that says which they are not.
     if byte == 0 {
         return TileState::Waiting;
     }
@@ -43,5 +42,7 @@ pub fn is_in(byte: u8, wanted: TileState) -> bool
 pub fn clear(tile_states: &mut [u8])
     ensures { tile_states.new ≡ replicate (length tile_states.old) (byte_of Waiting) }
 {
-    tile_states.fill(state_byte(TileState::Waiting));
+    for i in 0..tile_states.len() {
+        tile_states[i] = state_byte(TileState::Waiting);
+    }
 }

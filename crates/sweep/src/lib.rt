@@ -8,7 +8,7 @@ ghost use Rattle.base.specs.Limits.{max_side, max_pixels, max_radius, cpp_chroma
 ghost use Rattle.spans.specs.Spans.{Fits};
 ghost use Rattle.cpp.specs.Kernel.{KernelFits, size, kernel_place, lum_kernel, chroma_kernel};
 ghost use Rattle.sweep.specs.Sweep.{Centred, first, past, footprint_of, sweep_of, add_kernels};
-ghost use Rattle.sweep.specs.Part.{Part, RowSpan, part_of};
+ghost use Rattle.sweep.specs.Part.{Part, RowSpan, Steps, part_of, below_of};
 
 use base::Rect;
 use color::YyCxCz;
@@ -28,7 +28,10 @@ pub struct Source {
 fn first_in(m: usize, r: usize, a: usize) -> usize
     ensures { result ≡ first m r a }
 {
-    a.max(m.saturating_sub(r))
+    if m < r {
+        return a;
+    }
+    base::larger(a, m - r)
 }
 
 // One past its last.
@@ -36,7 +39,7 @@ fn past_in(m: usize, r: usize, b: usize) -> usize
     requires { (m ≤ max_side) × (r ≤ max_radius) }
     ensures { result ≡ past m r b }
 {
-    b.min(m + r + 1)
+    base::smaller(b, m + r + 1)
 }
 
 // The kernel's footprint round (x, y), cut at the window.
@@ -53,7 +56,6 @@ pub fn footprint(k: Kernel2D, w: Rect, x: usize, y: usize) -> Rect
 }
 
 // Where the kernel's value in column i and row j stands in the store; i may be one past a row's end.
-#[tactic(auto, using(crate::proofs::Laws::kernel_le))]
 fn kernel_place(k: Kernel2D, i: usize, j: usize) -> usize
     requires radius_le_max_radius { (k.radius ≤ max_radius) × (k.from ≤ cpp_chroma) }
     requires i_bound { (i ≤ size k) × (j < size k) }
@@ -76,8 +78,20 @@ pub fn part_at(k: Kernel2D, w: Rect, m: Source, c: Rect, y: usize) -> Span
     }
 }
 
+// The span a row further down.
+pub fn below(k: Kernel2D, w: Rect, s: Span) -> Span
+    requires steps { Steps k w }
+    requires fits { Fits (3 * max_pixels) cpp_length s }
+    ensures { result ≡ below_of k w s }
+{
+    Span {
+        at: s.at + 3 * (w.x1 - w.x0),
+        pixels: s.pixels,
+        from: s.from + (2 * k.radius + 1),
+    }
+}
+
 // The part c, row by row.
-#[tactic(auto, using(base::proofs::LoopLaws::from_to_none, base::proofs::LoopLaws::from_to_more, crate::proofs::Laws::span_is), unfolding(crate::specs::Part::part_of))]
 pub fn sweep_rows(
     cpe: &mut [f64],
     cpp: &[f64],
@@ -92,13 +106,15 @@ pub fn sweep_rows(
     requires part { Part k w m c }
     ensures { cpe.new ≡ part_of channels cpp.now k w m c cpe.old }
 {
-    for y in c.y0..c.y1 {
+    let end = c.y1;
+    let mut y = c.y0;
+    while y < end {
         spans::add_span(cpe, cpp, channels, m.a, part_at(k, w, m, c, y));
+        y += 1;
     }
 }
 
 // The kernel's whole footprint round m.
-#[tactic(auto, using(crate::proofs::Laws::whole_part, crate::proofs::Laws::whole_is))]
 fn sweep(cpe: &mut [f64], cpp: &[f64], k: Kernel2D, channels: Channels, w: Rect, m: Source)
     requires kernel_fits { KernelFits k cpp.now }
     requires centred { Centred w m.x m.y }
@@ -109,7 +125,6 @@ fn sweep(cpe: &mut [f64], cpp: &[f64], k: Kernel2D, channels: Channels, w: Rect,
 }
 
 // a times both kernels is added to `cpe` round (mx, my), cut at the window.
-#[tactic(auto, unfolding(crate::specs::Sweep::add_kernels))]
 pub fn add_kernels(
     cpe: &mut [f64],
     cpp: &[f64],

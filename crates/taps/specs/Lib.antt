@@ -1,2 +1,1 @@
 pub mod Taps
-pub mod Rows

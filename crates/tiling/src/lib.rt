@@ -7,7 +7,7 @@ ghost use Rattle.std.specs.Prelude.{◌≡◌, ◌+◌, ◌-◌, ◌/◌, ◌^�
 ghost use Rattle.tiling.specs.Tiling as spec;
 ghost use Rattle.tiling.specs.Tiling.{Limits};
 
-use base::Rect;
+use base::{Rect, larger, saturating_sub, smaller};
 
 // All that tiles are made of: the size of the image and the radii of both autocorrelation kernels.
 #[derive(Clone, Copy)]
@@ -22,33 +22,41 @@ pub struct Tiling {
 // parallelism. The correctness bound (2 margin + 1) is enforced separately.
 const MIN_TILE: usize = 64;
 
+// Rust's `div_ceil`.
+fn div_ceil(a: usize, b: usize) -> usize
+    requires { (0 < b) × (a + b < 2 ^ 64) }
+    ensures { result ≡ (a + (b - 1)) / b }
+{
+    (a + (b - 1)) / b
+}
+
 // How far beyond its tile a move writes: the larger radius, and one pixel more for a swap's neighbour.
 pub fn margin(t: Tiling) -> usize
     requires { Limits t }
     ensures { result ≡ spec.margin t }
 {
-    t.lum.max(t.chroma) + 1
+    larger(t.lum, t.chroma) + 1
 }
 
 pub fn side(t: Tiling) -> usize
     requires { Limits t }
     ensures { result ≡ spec.side t }
 {
-    MIN_TILE.max(2 * margin(t) + 1)
+    larger(MIN_TILE, 2 * margin(t) + 1)
 }
 
 pub fn columns(t: Tiling) -> usize
     requires { Limits t }
     ensures { result ≡ spec.columns t }
 {
-    t.width.div_ceil(side(t))
+    div_ceil(t.width, side(t))
 }
 
 pub fn rows(t: Tiling) -> usize
     requires { Limits t }
     ensures { result ≡ spec.rows t }
 {
-    t.height.div_ceil(side(t))
+    div_ceil(t.height, side(t))
 }
 
 pub fn tile_count(t: Tiling) -> usize
@@ -104,10 +112,10 @@ pub fn tile_rect(t: Tiling, tile: usize) -> Rect
     let x0 = tile_x(t, tile) * side;
     let y0 = tile_y(t, tile) * side;
     Rect {
-        x0,
-        y0,
-        x1: t.width.min(x0 + side),
-        y1: t.height.min(y0 + side),
+        x0: x0,
+        y0: y0,
+        x1: smaller(t.width, x0 + side),
+        y1: smaller(t.height, y0 + side),
     }
 }
 
@@ -117,5 +125,12 @@ pub fn region_rect(t: Tiling, tile: usize) -> Rect
     requires tile_bound { tile < spec.tiles t }
     ensures { result ≡ spec.region t tile }
 {
-    tile_rect(t, tile).with_margin(margin(t), t.width, t.height)
+    let margin = margin(t);
+    let rect = tile_rect(t, tile);
+    Rect {
+        x0: saturating_sub(rect.x0, margin),
+        y0: saturating_sub(rect.y0, margin),
+        x1: smaller(t.width, rect.x1 + margin),
+        y1: smaller(t.height, rect.y1 + margin),
+    }
 }

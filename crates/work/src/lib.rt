@@ -13,7 +13,6 @@ ghost use Rattle.job.specs.Work.{worked, work_of};
 
 use base::{Index, Status};
 use job::JobRecord;
-use search::Setup;
 
 // Moves accepted and the sum of their costs, or a refusal with zeros.
 #[repr(C)]
@@ -57,14 +56,17 @@ fn work(
     let t = plan.tiling;
     let region = tiling::region_rect(t, tile as usize);
     let rect = tiling::tile_rect(t, tile as usize);
-    let setup = Setup {
-        tiling: t,
-        count: plan.inks as usize,
+    let made = tile::refine_tile(
+        copy_cpe,
+        copy_indices,
         pinned,
         inks,
         cpp,
-    };
-    let made = tile::refine_tile(copy_cpe, copy_indices, setup, region, rect);
+        plan.inks as usize,
+        t,
+        region,
+        rect,
+    );
     DbsWorked {
         number: status.number,
         place: status.place,

@@ -23,6 +23,15 @@ fn word_over(old: u64, x: f64) -> u64
     bits::of_float(x)
 }
 
+fn copy_words(from: &[u64], to: &mut [u64])
+    requires { length from.now ≡ length to.old }
+    ensures { to.new ≡ from.now }
+{
+    for i in 0..to.len() {
+        to[i] = from[i];
+    }
+}
+
 // A record with the words of its errors.
 fn write_words(words: &mut [u64], r: JobRecord, initial: u64, error: u64)
     requires { length words.old ≡ run_length }
@@ -44,7 +53,7 @@ fn write_words(words: &mut [u64], r: JobRecord, initial: u64, error: u64)
         error,
         r.finished as u64,
     ];
-    words.copy_from_slice(&run);
+    copy_words(&run, words);
 }
 
 // A run that holds this record.

@@ -19,25 +19,25 @@ use Rattle.firstmove.proofs.first_in_phase.Goals as goal
 -- ---- places: the function's start, the tile that a turn looks at, and the row and the column that it is in
 
 abbrev S : Start → Shared
-S s = shared_of s.args.s
+S s = shared_of s.args.g s.args.pinned.now s.args.inks.now s.args.cpp.now
 
 -- ---- the tile
 
-in_count : (c : In-tiles) → c.tiles.tile < tiles c.args.s.tiling
+in_count : (c : In-tiles) → c.tiles.tile < tiles c.args.g.tiling
 in_count c = omega (arith, c.tiles-test.true, c.tile_count-tile-end.ensures)
 
 some : (c : After-tile_rect-q) → (c.tile_rect-q.result.x0 < c.tile_rect-q.result.x1) × (c.tile_rect-q.result.y0 < c.tile_rect-q.result.y1)
-some c = let i = (goal.at.After-tile_rect-q c).In-tiles in rw c.tile_rect-q.ensures (tile_some c.args.s.tiling c.tiles.tile (in_count i))
+some c = let i = (goal.at.After-tile_rect-q c).In-tiles in rw c.tile_rect-q.ensures (tile_some c.args.g.tiling c.tiles.tile (in_count i))
 
 of-phase : (c : After-tile_rect-q) →
-    in_phase c.args.s.tiling c.args.phase c.tiles.tile ≡ true
+    in_phase c.args.g.tiling c.args.phase c.tiles.tile ≡ true
 of-phase c = let e = c.is_in_phase in sym e.ensures ∙ affirmed e.result c.if-not-is_in_phase.false-raw
 
 -- the row of a turn
-row : (c : In-rows) → Row c.args.s.tiling (strip c.tile_rect-q.result c.rows.y)
+row : (c : In-rows) → Row c.args.g.tiling (strip c.tile_rect-q.result c.rows.y)
 row c =
     let q = (goal.at.In-rows c).After-tile_rect-q in
-    strip_row c.args.s.tiling c.requires.ready.limits c.tiles.tile c.tile_rect-q.result c.tile_rect-q.ensures c.rows.y (some q).0 c.rows-test.true
+    strip_row c.args.g.tiling c.requires.ready.limits c.tiles.tile c.tile_rect-q.result c.tile_rect-q.ensures c.rows.y (some q).0 c.rows-test.true
 
 -- ---- what is left to show
 

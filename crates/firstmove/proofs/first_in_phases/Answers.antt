@@ -10,7 +10,7 @@ use Rattle.firstmove.proofs.first_in_phases.Goals.{Start}
 use Rattle.firstmove.proofs.first_in_phases.Goals as goal
 
 abbrev S : Start → Shared
-S s = shared_of s.args.s
+S s = shared_of s.args.g s.args.pinned.now s.args.inks.now s.args.cpp.now
 
 pub loop-phase-init : goal.loop-phase-init
 loop-phase-init c = (omega arith, up_to_none _ _, c.requires.copy_cpe_len.0, c.requires.copy_cpe_len.1)

@@ -11,7 +11,7 @@ use Rattle.firstmove.proofs.move_at.Goals.{After-around-w, Start}
 use Rattle.firstmove.proofs.move_at.Goals as goal
 
 abbrev T : Start → Tiling
-T s = s.args.s.tiling
+T s = s.args.g.tiling
 
 abbrev Q : Start → Rect
 Q s = one_pixel s.args.x s.args.y

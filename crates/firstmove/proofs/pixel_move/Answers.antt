@@ -14,11 +14,11 @@ use Rattle.firstmove.proofs.pixel_move.Goals.{After-fill_copy, Start}
 use Rattle.firstmove.proofs.pixel_move.Goals as goal
 
 abbrev S : Start → Shared
-S s = shared_of s.args.s
+S s = shared_of s.args.g s.args.pinned.now s.args.inks.now s.args.cpp.now
 
 -- the window's pixels
 few : (s : Start) → area s.args.w ≤ max_pixels
-few s = omega (arith, area_is s.args.w, room s.args.s.tiling s.args.q (pixel_row s.args.s.tiling s.args.q s.requires.one_pixel.0) s.args.w s.requires.one_pixel.1)
+few s = omega (arith, area_is s.args.w, room s.args.g.tiling s.args.q (pixel_row s.args.g.tiling s.args.q s.requires.one_pixel.0) s.args.w s.requires.one_pixel.1)
 
 values : (f : After-fill_copy) → length f.fill_copy.new.copy_cpe ≡ 3 * area f.args.w
 values f = f.fill_copy.auto.copy_cpe ∙ f.requires.copy_cpe_len.0
@@ -36,7 +36,7 @@ pub fill_copy-requires : goal.fill_copy-requires
 fill_copy-requires c =
     let s = (goal.at.fill_copy-requires c).Start in
     let a = c.args in
-    record { holds = holds_as (S s) a.cpe.now a.indices.now (length a.cpe.now) a.q a.w c.requires.one_pixel.1 (pixel_row a.s.tiling a.q c.requires.one_pixel.0).part c.requires.ready; cpe_len = (c.requires.ready.cpe, c.requires.ready.indices_room); copy_cpe_len = c.requires.copy_cpe_len }
+    record { holds = holds_as (S s) a.cpe.now a.indices.now (length a.cpe.now) a.q a.w c.requires.one_pixel.1 (pixel_row a.g.tiling a.q c.requires.one_pixel.0).part c.requires.ready; cpe_len = (c.requires.ready.cpe, c.requires.ready.indices_room); copy_cpe_len = c.requires.copy_cpe_len }
 
 pub count_ink-ink-requires : goal.count_ink-ink-requires
 count_ink-ink-requires c =
@@ -46,7 +46,7 @@ count_ink-ink-requires c =
 pub walk_copy-p-requires : goal.walk_copy-p-requires
 walk_copy-p-requires c =
     let f = (goal.at.walk_copy-p-requires c).After-fill_copy in
-    record { ready = c.requires.ready; part = ((pixel_row c.args.s.tiling c.args.q c.requires.one_pixel.0).part, c.requires.one_pixel.1); copy_cpe_len = (values f, indices f) }
+    record { ready = c.requires.ready; part = ((pixel_row c.args.g.tiling c.args.q c.requires.one_pixel.0).part, c.requires.one_pixel.1); copy_cpe_len = (values f, indices f) }
 
 pub returns-then-p-eq0 : goal.returns-then-p-eq0
 returns-then-p-eq0 c =

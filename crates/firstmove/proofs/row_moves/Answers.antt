@@ -12,7 +12,7 @@ use Rattle.firstmove.proofs.row_moves.Goals.{After-around-w}
 use Rattle.firstmove.proofs.row_moves.Goals as goal
 
 abbrev T : After-around-w → Tiling
-T c = c.args.s.tiling
+T c = c.args.g.tiling
 
 abbrev Q : After-around-w → Rect
 Q c = c.args.q

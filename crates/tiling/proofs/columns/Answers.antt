@@ -1,15 +1,13 @@
--- `tiling::columns` meets its contract: a side is at least 64.
+-- `tiling::columns` meets its contract: a side is at least 64 and at most 67.
 use native.Mathlib.Omega.{arith}
-use Rattle.base.proofs.Bounds.{rounded_up}
-use Rattle.tiling.specs.Tiling.{columns, side}
+use Rattle.tiling.specs.Tiling.{columns}
 use Rattle.tiling.proofs.Sizes.{sizes}
 use Rattle.tiling.proofs.columns.Goals as goal
 
 pub div_ceil-requires : goal.div_ceil-requires
-div_ceil-requires c = let s = sizes _ c.requires in omega arith
+unfolding columns
+div_ceil-requires c = let s = sizes _ c.requires in (omega arith, omega arith)
 
 pub returns : goal.returns
 unfolding columns
-returns c =
-    let s = sizes _ c.requires in
-    rw (c.div_ceil.ensures, c.side.ensures) (rounded_up c.args.t.width (side c.args.t) (omega arith))
+returns c = rw (c.div_ceil.ensures, c.side.ensures)

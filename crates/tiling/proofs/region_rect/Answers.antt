@@ -4,12 +4,17 @@ use Rattle.tiling.specs.Tiling.{region}
 use Rattle.tiling.proofs.Sizes.{sizes, tile_limit}
 use Rattle.tiling.proofs.region_rect.Goals as goal
 
-pub with_margin-requires : goal.with_margin-requires
-with_margin-requires c =
+pub overflow_add-rect : goal.overflow_add-rect
+overflow_add-rect c =
     let p = c.requires in
-    let t = tile_limit _ p.limits _ p.tile_bound in
-    rw (c.tile_rect.ensures, c.margin.ensures) (omega (arith, t.2, (sizes _ p.limits).margin_limit), omega (arith, t.3, (sizes _ p.limits).margin_limit))
+    rw (c.tile_rect-rect.ensures, c.margin-margin.ensures) (omega (arith, (tile_limit _ p.limits _ p.tile_bound).2, (sizes _ p.limits).margin_limit))
+
+pub overflow_add-rect-2 : goal.overflow_add-rect-2
+overflow_add-rect-2 c =
+    let p = c.requires in
+    rw (c.tile_rect-rect.ensures, c.margin-margin.ensures) (omega (arith, (tile_limit _ p.limits _ p.tile_bound).3, (sizes _ p.limits).margin_limit))
 
 pub returns : goal.returns
 unfolding region
-returns c = rw (c.with_margin.ensures, c.margin.ensures, c.tile_rect.ensures)
+returns c =
+    rw (c.smaller-2.ensures, c.smaller.ensures, c.saturating_sub-2.ensures, c.saturating_sub.ensures, c.margin-margin.ensures, c.tile_rect-rect.ensures)

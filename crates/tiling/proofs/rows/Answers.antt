@@ -1,15 +1,13 @@
--- `tiling::rows` meets its contract: a side is at least 64.
+-- `tiling::rows` meets its contract: a side is at least 64 and at most 67.
 use native.Mathlib.Omega.{arith}
-use Rattle.base.proofs.Bounds.{rounded_up}
-use Rattle.tiling.specs.Tiling.{rows, side}
+use Rattle.tiling.specs.Tiling.{rows}
 use Rattle.tiling.proofs.Sizes.{sizes}
 use Rattle.tiling.proofs.rows.Goals as goal
 
 pub div_ceil-requires : goal.div_ceil-requires
-div_ceil-requires c = let s = sizes _ c.requires in omega arith
+unfolding rows
+div_ceil-requires c = let s = sizes _ c.requires in (omega arith, omega arith)
 
 pub returns : goal.returns
 unfolding rows
-returns c =
-    let s = sizes _ c.requires in
-    rw (c.div_ceil.ensures, c.side.ensures) (rounded_up c.args.t.height (side c.args.t) (omega arith))
+returns c = rw (c.div_ceil.ensures, c.side.ensures)

@@ -30,4 +30,4 @@ overflow_add-y0 c =
 
 pub returns : goal.returns
 unfolding tile
-returns c = rw (c.min-2.ensures, c.min.ensures, c.tile_y.ensures, c.tile_x.ensures, c.side-side.ensures)
+returns c = rw (c.smaller-2.ensures, c.smaller.ensures, c.tile_y.ensures, c.tile_x.ensures, c.side-side.ensures)

@@ -1,0 +1,37 @@
+-- `spans::add_pairs` meets its contract: the invariant is the fold up to i. Assumes nothing.
+use Rattle.base.proofs.LoopLaws.{up_to_none, up_to_more}
+use Rattle.color.specs.declared.YyCxCz.{YyCxCz}
+use Rattle.spans.specs.declared.Channels.{Channels}
+use Rattle.spans.specs.Add.{add_at}
+use Rattle.spans.specs.Spans.{add_pairs}
+use mathlib.Core.Path.{◌≡◌, sym}
+use mathlib.Core.List.{List}
+use Prim.Native.Nat.{ℕ, ◌+◌, ◌*◌}
+use native.Mathlib.Omega.{arith}
+use lib.ListN.{length, get_or}
+use lib.Ieee.{Float, nan}
+use borrow.Author.Rules.{rules}
+use Rattle.spans.proofs.add_pairs.Goals as goal
+
+none : (h : Channels) (a b : YyCxCz) (k o f : List Float) → f ≡ add_pairs h a b k o 0 f
+unfolding add_pairs
+none h a b k o f = sym (up_to_none _ f)
+
+more : (h : Channels) (a b : YyCxCz) (k o : List Float) (i : ℕ) (f : List Float) →
+    add_pairs h a b k o (i + 1) f ≡ add_at h b (get_or o i nan) (3 * i) (add_at h a (get_or k i nan) (3 * i) (add_pairs h a b k o i f))
+unfolding add_pairs
+more h a b k o i f = up_to_more _ i f
+
+pub loop-i-init : goal.loop-i-init
+loop-i-init c = (search rules, search rules, none _ _ _ _ _ _)
+
+pub add_two-requires : goal.add_two-requires
+add_two-requires c = omega (arith, c.loop-i-test.true, c.loop-i.invariant.1, c.requires)
+
+pub loop-i-preserved : goal.loop-i-preserved
+loop-i-preserved c = (search rules, search rules, rw (more, ← c.loop-i.invariant.2) c.add_two.ensures)
+
+pub returns : goal.returns
+returns c =
+    let e : c.loop-i.i ≡ length c.args.kernel.now = omega (arith, c.loop-i.invariant.0, c.loop-i-test.false) in
+    rw e at c.loop-i.invariant.2
