@@ -1,5 +1,7 @@
 -- What refining an accepted input leaves: the answer and every lent slice.
 use Rattle.std.specs.Prelude.{List, ℕ, ◌*◌, length, Float}
+use Rattle.base.specs.declared.Status.{Status}
+use Rattle.base.specs.F64.{f0}
 use Rattle.base.specs.Loop.{overwrite}
 use Rattle.input.specs.Input.{Input}
 use Rattle.walk.specs.Walk.{Walk}
@@ -16,6 +18,10 @@ pub record Refinement : Type 0 where
 
 abbrev pub refinement : DbsStats → List ℕ → List Float → List Float → List ℕ → List Float → Refinement
 refinement stats indices cpe cpp counts inks = record { stats = stats; indices = indices; cpe = cpe; cpp = cpp; counts = counts; inks = inks }
+
+-- 'A refusal changes no buffer ..; passes, counts, errors .. are then zeros'
+abbrev pub refused_stats : Status → DbsStats
+refused_stats s = record { number = s.number; place = s.place; passes = 0; initial_error = f0; final_error = f0 }
 
 -- 'Result: passes, initial error and final error', of a walk at its end
 abbrev pub stats_of : Float → Walk → DbsStats

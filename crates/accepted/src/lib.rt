@@ -2,15 +2,19 @@
 #![tactic(auto)]
 
 ghost use Rattle.std.specs.Prelude.{◌≡◌, length};
+ghost use Rattle.base.specs.Answer.{number_and_place};
 ghost use Rattle.input.specs.Input.{input};
 ghost use Rattle.prepare.specs.Prepare.{ReadyToPrepare};
-ghost use Rattle.accepted.specs.Accepted.{refinement, refine_accepted};
+ghost use Rattle.accepted.specs.Accepted.{refinement, refused_stats, refine_accepted};
 
-use base::Index;
+use base::{Index, Refusal, Status};
 use eye::DbsParams;
+use input::Input;
+use search::Setup;
 use tiling::Tiling;
 
 // Diagnostics of a run, or a refusal with zeros.
+// Kept: C reads number and place here, so that it is no `Result`.
 #[repr(C)]
 #[derive(Clone, Copy)]
 pub struct DbsStats {
@@ -22,6 +26,21 @@ pub struct DbsStats {
     pub initial_error: f64,
     // Perceived error of the refined halftone.
     pub final_error: f64,
+}
+
+impl From<Refusal> for DbsStats {
+    ghost from_gives = { λ r s. s ≡ refused_stats (number_and_place r) };
+
+    fn from(refusal: Refusal) -> DbsStats {
+        let s = Status::from(refusal);
+        DbsStats {
+            number: s.number,
+            place: s.place,
+            passes: 0,
+            initial_error: 0.0,
+            final_error: 0.0,
+        }
+    }
 }
 
 // An accepted input, with as many counts as passes are allowed.
@@ -40,19 +59,24 @@ pub fn refine_accepted(
     requires { ReadyToPrepare (input t.width t.height pixels.now palette.now indices.old pinned.now params) t (length inks.old) (length cpp.old) (length cpe.old) }
     ensures { refinement result indices.new cpe.new cpp.new accepted_per_pass.new inks.new ≡ refine_accepted (input t.width t.height pixels.now palette.now indices.old pinned.now params) (length accepted_per_pass.old) cpp.old accepted_per_pass.old }
 {
-    let error = prepare::prepare(pixels, palette, indices, pinned, params, t, inks, cpp, cpe);
-    let count = palette.len() / 3;
-    let end = walk::refine_passes(
-        cpe,
+    let given = Input {
+        width: t.width as u64,
+        height: t.height as u64,
+        pixels,
+        palette,
         indices,
+        pinned,
+        params,
+    };
+    let error = prepare::prepare(given, t, inks, cpp, cpe);
+    let setup = Setup {
+        tiling: t,
+        count: palette.len() / 3,
         pinned,
         inks,
         cpp,
-        count,
-        t,
-        accepted_per_pass,
-        error,
-    );
+    };
+    let end = walk::refine_passes(cpe, indices, setup, accepted_per_pass, error);
     DbsStats {
         number: 0,
         place: 0,

@@ -1,8 +1,10 @@
 -- Bounds on indexes of a grid and on products, and how two numbers stand. Assumes nothing.
-use mathlib.Core.Path.{◌≡◌, refl}
+use mathlib.Core.Path.{◌≡◌, refl, sym}
 use mathlib.Core.Bool.{Bool, true, false}
 use mathlib.Core.Logic.{◌⊎◌, inl, inr}
-use Prim.Native.Nat.{ℕ, suc, ◌+◌, ◌*◌, ◌≤◌, ◌<◌}
+use Prim.Native.Nat.{ℕ, zero, suc, ◌+◌, ◌-◌, ◌*◌, ◌/◌, ◌%◌, ◌≤◌, ◌<◌}
+use Rattle.std.proofs.Common.{min}
+use Rattle.std.proofs.Math.Nat.{div-add-mod, mul-add-div, div-eq_of_lt, mod-lt}
 use native.Mathlib.Omega.{arith}
 use native.Mathlib.Nat.{mul-le-mul, mul-le-mul_right}
 use lib.Dec.{ltb}
@@ -35,3 +37,19 @@ by_flag a b false e = inr (ltb-false a b e)
 
 pub lt_or_ge : (a b : ℕ) → (a < b) ⊎ (b ≤ a)
 lt_or_ge a b = by_flag a b (ltb a b) refl
+
+-- the library's quotient rounded up, as document 01 has it
+pub rounded_up : (a b : ℕ) → 0 < b → a / b + min 1 (a % b) ≡ (a + (b - 1)) / b
+rounded_up a b h = go (a % b) refl
+  where
+    whole : a ≡ b * (a / b) + a % b
+    whole = sym (div-add-mod a b)
+
+    go : (r : ℕ) → a % b ≡ r → a / b + min 1 (a % b) ≡ (a + (b - 1)) / b
+    go zero e =
+        let at : a + (b - 1) ≡ b * (a / b) + (b - 1) = omega (arith, whole, e) in
+        rw (at, mul-add-div h (a / b) (b - 1), div-eq_of_lt {n = b - 1} {m = b} (omega arith), e) (omega arith)
+    go (suc r) e =
+        let less : suc r < b = rw (← e) (mod-lt a h) in
+        let at : a + (b - 1) ≡ b * (a / b + 1) + r = omega (arith, whole, e) in
+        rw (at, mul-add-div h (a / b + 1) r, div-eq_of_lt {n = r} {m = b} (omega arith), e) (omega arith)

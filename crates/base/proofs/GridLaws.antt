@@ -1,17 +1,16 @@
 -- Laws of rectangles and their lists: places and pixels are one to one, lists are equal by their cells, and what `crop` and `paste` give. Assumes nothing.
 use Prim.Native.Nat.{ℕ, zero, suc, ◌+◌, ◌*◌, ◌-◌, ◌/◌, ◌%◌, ◌≤◌, ◌<◌}
 use native.Mathlib.Omega.{arith}
-use native.Mathlib.Nat.{mul-add-div, mul-add-div_right, mul-add-mod_self_left, mul-add-mod_self_right, div-eq_of_lt, mod-eq_of_lt, mod-lt, div-lt_iff_lt-mul, div-add-mod, div-add-mod', mul-le-mul_right, mul-le-mul_left, add-zero, mul_comm, zero-mul, mul-zero}
+use native.Mathlib.Nat.{mul-add-div, mul-add-div_right, mul-add-mod_self_left, mul-add-mod_self_right, div-eq_of_lt, mod-eq_of_lt, mod-lt, div-lt_iff_lt-mul, div-add-mod, div-add-mod', mul-le-mul_right, mul-le-mul_left, mul_comm, zero-mul, mul-zero}
 use mathlib.Core.Path.{◌≡◌, refl, sym, ap, ◌∙◌, subst}
 use mathlib.Core.Logic.{◌≢◌}
 use mathlib.Core.Bool.{Bool, true, false, cond, ◌&&◌}
-use mathlib.Core.List.{List, [], ◌∷◌}
-use lib.ListN.{length, get_or, set, length-set}
+use mathlib.Core.List.{List}
+use lib.ListN.{length, length-set}
 use lib.Seq.{get_or-set_same, get_or-set_other, ext_get_or}
 use lib.Dec.{leb, ltb, T, leb→le, ltb→lt, le→leb, lt→ltb}
 use Rattle.base.specs.Grid.{width, height, area, Inside, inside, Within, place, column_at, row_at, value_at, cell, put, crop, paste}
 use Rattle.base.specs.declared.Rect.{Rect}
-use Rattle.base.specs.Loop.{table}
 use Rattle.base.proofs.TableLaws.{length-table, get_d_table}
 
 -- The test and the fact.

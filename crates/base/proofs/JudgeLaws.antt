@@ -6,10 +6,14 @@ use mathlib.Core.Logic.{◌↔◌}
 use mathlib.Core.Bool.{Bool, true, false, cond}
 use mathlib.Core.List.{List, [], ◌∷◌, ◌++◌}
 use native.Mathlib.Omega.{arith}
-use borrow.Author.Tests.{eq-eqb, ne_eqb, eqb-true, eqb-false}
+use borrow.Author.Tests.{ne_eqb}
 use lib.Dec.{eqb}
 use Rattle.base.specs.declared.Status.{Status}
-use Rattle.base.specs.Refusal.{Test, judge, accepted, status, next, judge_from, Passes}
+use Rattle.base.specs.declared.Refusal.{Refusal}
+use Rattle.base.specs.declared.Refusal.TheVariants as rows
+use Rattle.std.proofs.Common.{Result, Ok, Err, IfOk, IfErr}
+use Rattle.base.specs.Answer.{number_and_place, status_of, Tested}
+use Rattle.base.specs.Refusal.{Test, judge, accepted, status, Passes}
 use Rattle.base.proofs.RefusalLaws.{Numbered, judge_none, judge_pass, judge_fail, accepted_of, passes_of}
 
 positive_ne : (n : ℕ) → 0 < n → n ≡ 0 → ⊥
@@ -23,57 +27,6 @@ judge_append (t ∷ ts) ys n = go t.fails refl (judge_append ts ys n.1)
     go : (b : Bool) → t.fails ≡ b → judge (ts ++ ys) ≡ cond (eqb (judge ts).number 0) (judge ys) (judge ts) → judge (t ∷ (ts ++ ys)) ≡ cond (eqb (judge (t ∷ ts)).number 0) (judge ys) (judge (t ∷ ts))
     go true f rest = rw (judge_fail t (ts ++ ys) f, judge_fail t ts f, ne_eqb t.number 0 (positive_ne t.number n.0))
     go false f rest = rw (judge_pass t (ts ++ ys) f, judge_pass t ts f) rest
-
--- ---- tests one after the other, as code makes them
-
-next_refused : (s : Status) (t : Test) → (s.number ≡ 0 → ⊥) → next s t ≡ s
-unfolding next
-next_refused s t f = rw (ne_eqb s.number 0 f)
-
-next_pass : (s : Status) (t : Test) → t.fails ≡ false → next s t ≡ s
-unfolding next
-next_pass s t e = go (eqb s.number 0)
-  where
-    go : (b : Bool) → cond b (cond t.fails (status t.number t.place) s) s ≡ s
-    go true = rw e
-    go false = refl
-
-next_fail : (s : Status) (t : Test) → s.number ≡ 0 → t.fails ≡ true → next s t ≡ status t.number t.place
-unfolding next
-next_fail s t z e = rw (eq-eqb s.number 0 z, e)
-
--- a refusal stays
-pub stays : (s : Status) (ts : List Test) → (s.number ≡ 0 → ⊥) → s ≡ judge_from s ts
-stays s [] f = refl
-stays s (t ∷ ts) f = rw (next_refused s t f) (stays s ts f)
-
-pub judge_from_lem : (ts : List Test) → Numbered ts → judge_from accepted ts ≡ judge ts
-unfolding Numbered
-judge_from_lem [] n = sym judge_none
-judge_from_lem (t ∷ ts) n = go t.fails refl (judge_from_lem ts n.1)
-  where
-    go : (b : Bool) → t.fails ≡ b → judge_from accepted ts ≡ judge ts → judge_from (next accepted t) ts ≡ judge (t ∷ ts)
-    go true f rest = rw (next_fail accepted t refl f, judge_fail t ts f) (sym (stays (status t.number t.place) ts (positive_ne t.number n.0)))
-    go false f rest = rw (next_pass accepted t f, judge_pass t ts f) rest
-
-pub from_append : (s : Status) (xs ys : List Test) → judge_from (judge_from s xs) ys ≡ judge_from s (xs ++ ys)
-from_append s [] ys = refl
-from_append s (x ∷ xs) ys = from_append (next s x) xs ys
-
--- what code has made step by step
-pub by_steps : (ts : List Test) {s : Status} → Numbered ts → s ≡ judge_from accepted ts → s ≡ judge ts
-by_steps ts n e = e ∙ judge_from_lem ts n
-
--- the number 0 means that none has failed, before or now
-pub zero_from : (s : Status) (ts : List Test) → Numbered ts → (judge_from s ts).number ≡ 0 → (s.number ≡ 0) × Passes ts
-unfolding Numbered Passes
-zero_from s [] n z = (z, tt)
-zero_from s (t ∷ ts) n z = go (eqb s.number 0) refl t.fails refl (zero_from (next s t) ts n.1 z)
-  where
-    go : (a : Bool) → eqb s.number 0 ≡ a → (b : Bool) → t.fails ≡ b → ((next s t).number ≡ 0) × Passes ts → (s.number ≡ 0) × ((t.fails ≡ false) × Passes ts)
-    go a e false f rest = (ap (λ (u : Status). u.number) (sym (next_pass s t f)) ∙ rest.0, (f, rest.1))
-    go true e true f rest = absurd (positive_ne t.number n.0 (ap (λ (u : Status). u.number) (sym (next_fail s t (eqb-true s.number 0 e) f)) ∙ rest.0))
-    go false e true f rest = absurd (eqb-false s.number 0 e (ap (λ (u : Status). u.number) (sym (next_refused s t (eqb-false s.number 0 e))) ∙ rest.0))
 
 -- ---- accepted
 
@@ -99,3 +52,66 @@ passes_of_zero (t ∷ ts) n e = go t.fails refl (passes_of_zero ts n.1)
 
 pub judge-zero : (ts : List Test) → Numbered ts → (judge ts).number ≡ 0 → judge ts ≡ accepted
 judge-zero ts n e = accepted_of ts (passes_of_zero ts n e)
+
+-- ---- lists of tests one after the other, each until one fails, as code makes them
+
+-- a refusal's number is not 0
+pub refusal_number : (r : Refusal) → 0 < (number_and_place r).number
+refusal_number rows.Size = omega arith
+refusal_number rows.Pixels = omega arith
+refusal_number rows.Indices = omega arith
+refusal_number rows.Mask = omega arith
+refusal_number rows.Palette = omega arith
+refusal_number (rows.Index place) = omega arith
+refusal_number rows.Ppi = omega arith
+refusal_number rows.Distance = omega arith
+refusal_number rows.LuminanceTooNarrow = omega arith
+refusal_number rows.ChrominanceTooWide = omega arith
+refusal_number rows.Passes = omega arith
+refusal_number (rows.Length buffer) = omega arith
+refusal_number rows.Record = omega arith
+refusal_number rows.NotDue = omega arith
+refusal_number rows.State = omega arith
+refusal_number (rows.Missing tile) = omega arith
+refusal_number rows.Finished = omega arith
+refusal_number (rows.MaskByte place) = omega arith
+
+-- where one list has passed, the next is the judgement
+pub goes_on : (xs ys : List Test) → Numbered xs → accepted ≡ judge xs → judge ys ≡ judge (xs ++ ys)
+goes_on xs ys n e = sym (judge_append xs ys n ∙ rw (← e))
+
+-- where one has refused, it is the judgement
+pub ends_at : (r : Refusal) (xs ys : List Test) → Numbered xs → number_and_place r ≡ judge xs → number_and_place r ≡ judge (xs ++ ys)
+ends_at r xs ys n e = sym (judge_append xs ys n ∙ rw (← e, ne_eqb (number_and_place r).number 0 (positive_ne (number_and_place r).number (refusal_number r))))
+
+-- the same of code's answer
+pub tested_on : {A : Type 0} (r : Result A Refusal) (xs ys : List Test) (value : A) → Numbered xs → accepted ≡ judge xs → Tested r ys value → Tested r (xs ++ ys) value
+tested_on (Ok x) xs ys value n e h = (h.0 ∙ goes_on xs ys n e, h.1)
+tested_on (Err r) xs ys value n e h = h ∙ goes_on xs ys n e
+
+-- a refusal is not 0, 0
+pub refusal_ne : (r : Refusal) → (number_and_place r).number ≡ 0 → ⊥
+refusal_ne r = positive_ne (number_and_place r).number (refusal_number r)
+
+pub refuses : (r : Refusal) (s : Status) → number_and_place r ≡ s → s ≡ accepted → ⊥
+refuses r s e a = refusal_ne r (ap (λ (s : Status). s.number) (e ∙ a))
+
+-- ---- the tests of a call by parts, as code makes them
+
+-- what follows a list that has passed
+pub follows : (xs ys : List Test) → Numbered xs → accepted ≡ judge xs → {s : Status} → s ≡ judge ys → s ≡ judge (xs ++ ys)
+follows xs ys n h e = e ∙ goes_on xs ys n h
+
+-- one test
+module _ (t : Test) (ts : List Test) where
+  pub passed_by : t.fails ≡ false → {s : Status} → s ≡ judge ts → s ≡ judge (t ∷ ts)
+  passed_by f e = e ∙ sym (judge_pass t ts f)
+
+  pub refused_by : {e : Refusal} (r : Refusal) → (t.fails ≡ true) × (e ≡ r) → number_and_place r ≡ status t.number t.place → number_and_place e ≡ judge (t ∷ ts)
+  refused_by r f h = ap number_and_place f.1 ∙ h ∙ sym (judge_fail t ts f.0)
+
+-- the last one
+pub last_by : {A : Type 0} (t : Test) (r : Refusal) → number_and_place r ≡ status t.number t.place → (made : Result A Refusal) →
+    IfOk made (λ _. t.fails ≡ false) → IfErr made (λ e. (t.fails ≡ true) × (e ≡ r)) → status_of made ≡ judge (t ∷ [])
+last_by t r h (Ok x) p f = passed_by t [] p (sym judge_none)
+last_by t r h (Err e) p f = refused_by t [] r f h

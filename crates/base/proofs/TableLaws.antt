@@ -1,10 +1,10 @@
 -- Laws of `table` and `overwrite`, and of loops that fill a slice from the front. Assumes nothing.
-use Prim.Native.Nat.{ℕ, zero, suc, ◌+◌, ◌-◌, ◌≤◌, ◌<◌}
+use Prim.Native.Nat.{ℕ, zero, suc, ◌+◌, ◌≤◌, ◌<◌}
 use mathlib.Core.Path.{◌≡◌, refl, sym, ap, ◌∙◌}
 use mathlib.Core.List.{List, [], ◌∷◌, ◌++◌, append-nil, append_assoc}
 use native.Mathlib.Numerals.{add-one}
 use native.Mathlib.Omega.{arith}
-use lib.ListN.{length, get_or, take, drop, set, replicate, length-replicate, get_or-replicate, length-append, length-take, length-drop, length-set, drop_of_length-le}
+use lib.ListN.{length, get_or, take, drop, set, replicate, length-replicate, get_or-replicate, length-append, length-take, length-drop, drop_of_length-le}
 use lib.Seq.{length-take-le, set_at, drop-cons, append_snoc, ext_get_or, get_or-append-add, get_or-drop}
 use Rattle.base.specs.Loop.{table, overwrite}
 

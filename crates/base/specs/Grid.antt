@@ -1,6 +1,6 @@
 -- Rectangles of an image and the flat lists that hold their pixels row by row, k values a pixel: 3 for `cpe`, 1 for the indices.
 -- Coordinates are always those of the image, so that the whole image and a part of it are spoken of alike.
-use Rattle.std.specs.Prelude.{ℕ, ◌+◌, ◌*◌, ◌-◌, ◌/◌, ◌%◌, ◌≤◌, ◌<◌, Bool, cond, ◌&&◌, List, get_or, set, leb, ltb}
+use Rattle.std.specs.Prelude.{ℕ, ◌+◌, ◌*◌, ◌-◌, ◌/◌, ◌%◌, ◌≤◌, ◌<◌, min, Bool, cond, ◌&&◌, List, get_or, set, leb, ltb}
 use Rattle.base.specs.declared.Rect.{Rect}
 use Rattle.base.specs.Loop.{table}
 
@@ -12,6 +12,10 @@ height W = W.y1 - W.y0
 
 unfoldable pub area : Rect → ℕ
 area W = height W * width W
+
+-- `with_margin` in dbs.rs: W widened by m, cut at an image of w columns and h rows
+abbrev pub with_margin : ℕ → ℕ → ℕ → Rect → Rect
+with_margin m w h W = record { x0 = W.x0 - m; y0 = W.y0 - m; x1 = min w (W.x1 + m); y1 = min h (W.y1 + m) }
 
 -- pixel (x, y) lies in W
 pub record Inside (W : Rect) (x y : ℕ) : Type 0 where

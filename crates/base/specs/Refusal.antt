@@ -25,14 +25,6 @@ unfoldable pub judge : List Test → Status
 judge [] = accepted
 judge (t ∷ ts) = let rest = judge ts in cond t.fails (status t.number t.place) rest
 
--- the same as code makes it, from the first test on: a test is made where none before it has failed
-unfoldable pub next : Status → Test → Status
-next s t = cond (eqb s.number 0) (cond t.fails (status t.number t.place) s) s
-
-abbrev pub judge_from : Status → List Test → Status
-judge_from s [] = s
-judge_from s (t ∷ ts) = judge_from (next s t) ts
-
 -- no test fails
 unfoldable pub Passes : List Test → Type 0
 Passes [] = Unit

@@ -13,6 +13,7 @@ const INFINITY: u64 = 0x7ff0_0000_0000_0000;
 const NAN: u64 = 0x7ff8_0000_0000_0000;
 
 // Whether these are the bits of a NaN.
+// Kept: `from_bits` takes no bits of a NaN, and `to_bits` no NaN, so that the three stand between them and document 01's one NaN.
 pub fn is_nan(bits: u64) -> bool
     ensures { result ≡ nan_bits binary64 bits }
 {
@@ -24,7 +25,7 @@ pub fn to_float(bits: u64) -> f64
     ensures { result ≡ of_bits binary64 bits }
 {
     if is_nan(bits) {
-        return 0.0 / 0.0;
+        return f64::NAN;
     }
     f64::from_bits(bits)
 }
@@ -33,8 +34,5 @@ pub fn to_float(bits: u64) -> f64
 pub fn of_float(x: f64) -> u64
     ensures { result ≡ to_bits binary64 x }
 {
-    if x == x {
-        return f64::to_bits(x);
-    }
-    NAN
+    if x.is_nan() { NAN } else { x.to_bits() }
 }

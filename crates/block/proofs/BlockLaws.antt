@@ -1,7 +1,7 @@
 -- A block row by row of the image: what a row adds to it, one row more, all rows. Assumes nothing.
-use Prim.Native.Nat.{ℕ, zero, suc, ◌+◌, ◌*◌, ◌-◌, ◌<◌, ◌≤◌, min}
+use Prim.Native.Nat.{ℕ, suc, ◌+◌, ◌*◌, ◌-◌, ◌<◌, ◌≤◌, min}
 use native.Mathlib.Omega.{arith}
-use native.Mathlib.Nat.{add-zero, mul-le-mul, mul-le-mul_right}
+use native.Mathlib.Nat.{mul-le-mul_right}
 use mathlib.Core.Path.{◌≡◌, refl, sym, ap, subst, ◌∙◌}
 use mathlib.Core.Logic.{⊎_elim}
 use mathlib.Core.List.{List}
@@ -10,9 +10,9 @@ use lib.Ieee.{Float, nan}
 use Rattle.base.specs.Loop.{from_to, table}
 use Rattle.base.specs.F64.{◌+f◌, ◌*f◌}
 use Rattle.base.proofs.Bounds.{lt_or_ge}
-use Rattle.base.proofs.LoopLaws.{from_to_none, from_to_more, from_to_rel, up_to_same, from_to_shift}
+use Rattle.base.proofs.LoopLaws.{from_to_none, from_to_more, from_to_rel, from_to_shift}
 use Rattle.base.proofs.TableLaws.{length-table, get_d_table}
-use Rattle.color.specs.Inks.{channel}
+use Rattle.color.specs.Inks.{channel, number}
 use Rattle.correlate.specs.Correlate.{at, tap_term, tap_sum, row_taps, Spread, SpreadFits}
 use Rattle.correlate.proofs.SpreadLaws.{spread_idle, spread_same, spread_then}
 use Rattle.error.specs.Error.{Scene, error_at}
@@ -24,13 +24,6 @@ use Rattle.block.specs.Block.{side, row_top, first_column, column_count, sum_ter
 
 lt_left : (q a b : ℕ) → q < min a b → q < a
 lt_left q a b h = omega (arith, h)
-
-lt_right : (q a b : ℕ) → q < min a b → q < b
-lt_right q a b h = omega (arith, h)
-
--- the columns that the sums take lie in the image
-pub columns_in : (w X R C A x n : ℕ) → x ≡ X - R → 1 ≤ C → X + C ≤ w + R → n ≡ min w (X + C + A) - (X - R) → x + n ≤ w
-columns_in w X R C A x n p some right q = omega (arith, p, some, right, q)
 
 -- the column of taps for column j and the image's column X - R + q
 column_is : (X R j q : ℕ) → q + (R - X) - j ≡ X - R + q + R - (X + j)
@@ -68,7 +61,7 @@ row_lt y R A Y a i e h = omega (arith, e, h)
 order_is : (y R A Y rows : ℕ) → y < Y + rows + A → y + R - Y + 1 - (R + A + 1) ≤ min rows (y + R - Y + 1)
 order_is y R A Y rows h = omega (arith, h)
 
-module _ (B : Block) (G : Scene) (taps : List Float) (n m : ℕ) (fits : BlockFits B G (length taps) n m) where
+module _ (w h : ℕ) (B : Block) (G : Scene) (taps : List Float) (n m : ℕ) (fits : BlockFits w h B (length taps) n m) where
   abbrev lead : ℕ
   lead = B.before - B.x
 
@@ -79,34 +72,34 @@ module _ (B : Block) (G : Scene) (taps : List Float) (n m : ℕ) (fits : BlockFi
   C = B.lines.width
 
   -- what row y adds at one place
-  row_is : (y : ℕ) (line : List Float) → line ≡ table (column_count B) (error_in_row B.width G B.channel x0 y) → (i j : ℕ) → j < C → (s : Float) →
-      row_taps line taps (side B) (row_top B y) lead i j s ≡ sum_row B G taps (B.x + j) (B.y + i) y s
+  row_is : (y : ℕ) (line : List Float) → line ≡ table (column_count w B) (error_in_row w G (number B.channel) x0 y) → (i j : ℕ) → j < C → (s : Float) →
+      row_taps line taps (side B) (row_top B y) lead i j s ≡ sum_row w B G taps (B.x + j) (B.y + i) y s
   unfolding row_taps tap_sum tap_term sum_row sum_term error_in_row
   row_is y line e i j in-j s =
       let k = side B in
-      let count = column_count B in
+      let count = column_count w B in
       let ox = B.x + j in
       let oy = B.y + i in
-      let term : ℕ → Float → Float = λ x t. t +f at taps ((y + B.before - oy) * k + (x + B.before - ox)) *f channel B.channel (error_at B.width G x y) in
+      let term : ℕ → Float → Float = λ x t. t +f at taps ((y + B.before - oy) * k + (x + B.before - ox)) *f channel (number B.channel) (error_at w G x y) in
       let long : length line ≡ count = ap (λ (l : List Float). length l) e ∙ length-table _ _ in
       from_to_rel (λ (t u : Float). t ≡ u) (j + 0 - lead) (min (length line) (j + k - lead)) (j - lead) (min count (j + k - lead)) _ (λ q. term (x0 + q)) (omega arith) (ap (λ (a : ℕ). min a (j + k - lead)) long)
       (λ q left right t u same.
       let in-line : q < count = subst (λ (a : ℕ). q < a) long (lt_left q (length line) (j + k - lead) right) in
-      let value : at line q ≡ channel B.channel (error_at B.width G (x0 + q) y) = ap (λ (l : List Float). at l q) e ∙ get_d_table count (error_in_row B.width G B.channel x0 y) q nan in-line in
+      let value : at line q ≡ channel (number B.channel) (error_at w G (x0 + q) y) = ap (λ (l : List Float). at l q) e ∙ get_d_table count (error_in_row w G (number B.channel) x0 y) q nan in-line in
       rw (same, value, column_is B.x B.before j q, row_is_top y B.before B.y i))
       s s refl
       ∙ from_to_shift x0 (j - lead) (min count (j + k - lead)) term s
-      ∙ ends term s (span_first B.x B.before j) (span_past B.width B.x B.before C B.after j in-j fits.right)
+      ∙ ends term s (span_first B.x B.before j) (span_past w B.x B.before C B.after j in-j fits.right)
 
-  pub row_adds : (y : ℕ) (line sums sums' : List Float) (a b d : ℕ) → d ≡ lead → line ≡ table (column_count B) (error_in_row B.width G B.channel x0 y) →
+  pub row_adds : (y : ℕ) (line sums sums' : List Float) (a b d : ℕ) → d ≡ lead → line ≡ table (column_count w B) (error_in_row w G (number B.channel) x0 y) →
       a ≡ row_top B y + 1 - side B → b ≡ min B.rows (row_top B y + 1) →
       Spread B.lines a b (row_taps line taps (side B) (row_top B y) d) sums sums' →
-      Spread B.lines (row_top B y + 1 - side B) (min B.rows (row_top B y + 1)) (λ i j. sum_row B G taps (B.x + j) (B.y + i) y) sums sums'
+      Spread B.lines (row_top B y + 1 - side B) (min B.rows (row_top B y + 1)) (λ i j. sum_row w B G taps (B.x + j) (B.y + i) y) sums sums'
   row_adds y line sums sums' a b d f e p q sp =
-      rw (p, q) at (spread_same B.lines a b _ (λ i j. sum_row B G taps (B.x + j) (B.y + i) y) sums sums' (rw f at sp) (λ i j low high in-j s. row_is y line e i j in-j s))
+      rw (p, q) at (spread_same B.lines a b _ (λ i j. sum_row w B G taps (B.x + j) (B.y + i) y) sums sums' (rw f at sp) (λ i j low high in-j s. row_is y line e i j in-j s))
 
   -- row y has lines to be added to, and rows of taps for them
-  pub row_spreads : (y a b : ℕ) → RowReaches B y → a ≡ row_top B y + 1 - side B → b ≡ min B.rows (row_top B y + 1) → SpreadFits B.lines m a b (length taps) (side B) (row_top B y)
+  pub row_spreads : (y a b : ℕ) → RowReaches h B y → a ≡ row_top B y + 1 - side B → b ≡ min B.rows (row_top B y + 1) → SpreadFits B.lines m a b (length taps) (side B) (row_top B y)
   row_spreads y a b row from to =
       let k = side B in
       record {
@@ -116,41 +109,31 @@ module _ (B : Block) (G : Scene) (taps : List Float) (n m : ℕ) (fits : BlockFi
         room = λ i p q. fits.room i (omega (arith, to, q));
         most = fits.most;
         taps = λ i p q. (omega (arith, to, q), let g : suc (row_top B y - i) * k ≤ k * k = mul-le-mul_right k (row_lt y B.before B.after B.y a i from p) in omega (arith, g, fits.square));
-        few = let t : k ≤ 65 = omega (arith, fits.reach) in omega (arith, fits.square, mul-le-mul t t);
       }
 
   -- ---- one row more
 
-  pub rows_none : (sums : List Float) → Spread B.lines 0 B.rows (sum_rows B G taps (B.y - B.before)) sums sums
+  pub rows_none : (sums : List Float) → Spread B.lines 0 B.rows (sum_rows w B G taps (B.y - B.before)) sums sums
   unfolding sum_rows
-  rows_none sums = spread_idle B.lines 0 B.rows (sum_rows B G taps (B.y - B.before)) sums (λ i j low high s. from_to_none _ _ _ s (omega arith))
+  rows_none sums = spread_idle B.lines 0 B.rows (sum_rows w B G taps (B.y - B.before)) sums (λ i j low high s. from_to_none _ _ _ s (omega arith))
 
-  pub rows_more : (y : ℕ) (sums l o : List Float) → B.y ≤ y + B.before → Spread B.lines 0 B.rows (sum_rows B G taps y) sums l →
-      Spread B.lines (row_top B y + 1 - side B) (min B.rows (row_top B y + 1)) (λ i j. sum_row B G taps (B.x + j) (B.y + i) y) l o →
-      Spread B.lines 0 B.rows (sum_rows B G taps (y + 1)) sums o
+  pub rows_more : (y : ℕ) (sums l o : List Float) → B.y ≤ y + B.before → Spread B.lines 0 B.rows (sum_rows w B G taps y) sums l →
+      Spread B.lines (row_top B y + 1 - side B) (min B.rows (row_top B y + 1)) (λ i j. sum_row w B G taps (B.x + j) (B.y + i) y) l o →
+      Spread B.lines 0 B.rows (sum_rows w B G taps (y + 1)) sums o
   unfolding sum_rows
   rows_more y sums l o reach p q =
-      let row : ℕ → ℕ → Float → Float = λ i j. sum_row B G taps (B.x + j) (B.y + i) y in
-      spread_then B.lines B.rows (row_top B y + 1 - side B) (min B.rows (row_top B y + 1)) (sum_rows B G taps y) row (sum_rows B G taps (y + 1)) sums l o fits.apart (omega arith) p q
+      let row : ℕ → ℕ → Float → Float = λ i j. sum_row w B G taps (B.x + j) (B.y + i) y in
+      spread_then B.lines B.rows (row_top B y + 1 - side B) (min B.rows (row_top B y + 1)) (sum_rows w B G taps y) row (sum_rows w B G taps (y + 1)) sums l o fits.apart (omega arith) p q
       (λ i j low high in-j s.
       let now : min y (B.y + i + B.after + 1) ≡ y = omega (arith, low, reach) in
       let next : min (y + 1) (B.y + i + B.after + 1) ≡ y + 1 = omega (arith, low, reach) in
-      rw (now, next) (sym (from_to_more (B.y + i - B.before) y (sum_row B G taps (B.x + j) (B.y + i)) s (omega (arith, high)))))
+      rw (now, next) (sym (from_to_more (B.y + i - B.before) y (sum_row w B G taps (B.x + j) (B.y + i)) s (omega (arith, high)))))
       (λ i j in-i in-j low s. let e : min y (B.y + i + B.after + 1) ≡ min (y + 1) (B.y + i + B.after + 1) = omega (arith, low) in rw e)
       (λ i j in-i in-j high s. from_to_none _ _ _ s (omega (arith, high, in-i)) ∙ sym (from_to_none _ _ _ s (omega (arith, high, in-i))))
 
   -- all rows
-  pub rows_all : (y : ℕ) (sums l : List Float) → y ≡ min B.height (B.y + B.rows + B.after) → Spread B.lines 0 B.rows (sum_rows B G taps y) sums l → Spread B.lines 0 B.rows (sum_rows B G taps B.height) sums l
+  pub rows_all : (y : ℕ) (sums l : List Float) → y ≡ min h (B.y + B.rows + B.after) → Spread B.lines 0 B.rows (sum_rows w B G taps y) sums l → Spread B.lines 0 B.rows (sum_rows w B G taps h) sums l
   unfolding sum_rows
   rows_all y sums l end p =
-      spread_same B.lines 0 B.rows (sum_rows B G taps y) (sum_rows B G taps B.height) sums l p
-      (λ i j low in-i in-j s. let e : min y (B.y + i + B.after + 1) ≡ min B.height (B.y + i + B.after + 1) = omega (arith, end, in-i) in rw e)
-
--- a row of errors is the one that a block asks for
-pub line_is : (B : Block) (G : Scene) (y x n : ℕ) (line : List Float) → line ≡ table n (error_in_row B.width G B.channel x y) → n ≡ column_count B → x ≡ first_column B →
-    line ≡ table (column_count B) (error_in_row B.width G B.channel (first_column B) y)
-line_is B G y x n line e p q = rw (p, q) at e
-
--- lists of the same lengths
-pub same_fits : (B : Block) (G : Scene) (taps line sums line' sums' : ℕ) → BlockFits B G taps line sums → line' ≡ line → sums' ≡ sums → BlockFits B G taps line' sums'
-same_fits B G taps line sums line' sums' f p q = rw (p, q) f
+      spread_same B.lines 0 B.rows (sum_rows w B G taps y) (sum_rows w B G taps h) sums l p
+      (λ i j low in-i in-j s. let e : min y (B.y + i + B.after + 1) ≡ min h (B.y + i + B.after + 1) = omega (arith, end, in-i) in rw e)

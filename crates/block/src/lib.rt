@@ -5,21 +5,19 @@
 
 ghost use Rattle.std.specs.Prelude.{◌≡◌, ◌+◌, ◌-◌, ◌*◌, ◌≤◌, min, length};
 ghost use Rattle.base.specs.Limits.{max_side};
-ghost use Rattle.light.specs.Lut.{srgb_to_linear};
 ghost use Rattle.correlate.specs.Correlate.{Spread};
-ghost use Rattle.error.specs.Error.{scene};
+ghost use Rattle.error.specs.Scenes.{image_of};
 ghost use Rattle.block.specs.Block.{side, row_top, column_count, RowReaches, sum_row, sum_rows, BlockFits};
 
-use base::{Index, saturating_sub, smaller};
+use color::Channel;
 use correlate::Lines;
+use error::Scene;
 
 // Sums of one channel of an image's error: as many columns as a line has, and so many rows, from
 // (x, y) on. A sum takes the pixels from `before` columns and rows before its place to `after` behind it.
 #[derive(Clone, Copy)]
 pub struct Block {
-    pub width: usize,
-    pub height: usize,
-    pub channel: usize,
+    pub channel: Channel,
     pub x: usize,
     pub y: usize,
     pub rows: usize,
@@ -28,76 +26,47 @@ pub struct Block {
     pub lines: Lines,
 }
 
-// How many columns of the image a block's sums take.
-pub fn column_count(b: Block) -> usize
-    requires { b.x + b.lines.width + b.after ≤ 2 * max_side }
-    ensures { result ≡ column_count b }
-{
-    let l = b.lines;
-    saturating_sub(
-        smaller(b.width, b.x + l.width + b.after),
-        saturating_sub(b.x, b.before),
-    )
-}
+impl Block {
+    // How many columns of an image of so many columns the sums take.
+    pub fn column_count(self, width: usize) -> usize
+        requires { self.x + self.lines.width + self.after ≤ 2 * max_side }
+        ensures { result ≡ column_count width self }
+    {
+        width
+            .min(self.x + self.lines.width + self.after)
+            .saturating_sub(self.x.saturating_sub(self.before))
+    }
 
-// What row y of the image adds to a block.
-fn add_row(
-    lut: &[u64; 256],
-    pixels: &[u8],
-    indices: &[Index],
-    pinned: &[u8],
-    inks: &[f64],
-    taps: &[f64],
-    b: Block,
-    y: usize,
-    line: &mut [f64],
-    sums: &mut [f64],
-)
-    requires lut_value { lut.now ≡ srgb_to_linear }
-    requires block_fits { BlockFits b (scene pixels.now indices.now pinned.now inks.now) (length taps.now) (length line.old) (length sums.old) }
-    requires row_reaches { RowReaches b y }
-    ensures { Spread b.lines (row_top b y + 1 - side b) (min b.rows (row_top b y + 1)) (λ i j. sum_row b (scene pixels.now indices.now pinned.now inks.now) taps.now (b.x + j) (b.y + i) y) sums.old sums.new }
-{
-    let x = saturating_sub(b.x, b.before);
-    error::channel_errors(
-        lut, pixels, indices, pinned, inks, b.width, b.channel, x, y, line,
-    );
-    let size = b.before + b.after + 1;
-    let top = y + b.before - b.y;
-    let l = b.lines;
-    correlate::spread(
-        sums,
-        l,
-        saturating_sub(top + 1, size),
-        smaller(b.rows, top + 1),
-        line,
-        taps,
-        size,
-        top,
-        saturating_sub(b.before, b.x),
-    );
-}
+    // What row y of the image adds to the sums.
+    fn add_row(self, scene: Scene<'_>, taps: &[f64], y: usize, line: &mut [f64], sums: &mut [f64])
+        requires block_fits { BlockFits scene.width scene.height self (length taps.now) (length line.old) (length sums.old) }
+        requires row_reaches { RowReaches scene.height self y }
+        ensures { Spread self.lines (row_top self y + 1 - side self) (min self.rows (row_top self y + 1)) (λ i j. sum_row scene.entry.width self (image_of scene.entry) taps.now (self.x + j) (self.y + i) y) sums.old sums.new }
+    {
+        scene.channel_errors(self.channel, self.x.saturating_sub(self.before), y, line);
+        let size = self.before + self.after + 1;
+        let top = y + self.before - self.y;
+        correlate::spread(
+            sums,
+            self.lines,
+            (top + 1).saturating_sub(size),
+            self.rows.min(top + 1),
+            line,
+            taps,
+            size,
+            top,
+            self.before.saturating_sub(self.x),
+        );
+    }
 
-// All rows of the image that a block's sums take, from top to bottom, with room lent for a row of errors.
-pub fn correlate_block(
-    lut: &[u64; 256],
-    pixels: &[u8],
-    indices: &[Index],
-    pinned: &[u8],
-    inks: &[f64],
-    taps: &[f64],
-    b: Block,
-    line: &mut [f64],
-    sums: &mut [f64],
-)
-    requires lut_value { lut.now ≡ srgb_to_linear }
-    requires block_fits { BlockFits b (scene pixels.now indices.now pinned.now inks.now) (length taps.now) (length line.old) (length sums.old) }
-    ensures { Spread b.lines 0 b.rows (sum_rows b (scene pixels.now indices.now pinned.now inks.now) taps.now b.height) sums.old sums.new }
-{
-    let end = smaller(b.height, b.y + b.rows + b.after);
-    let mut y = saturating_sub(b.y, b.before);
-    while y < end {
-        add_row(lut, pixels, indices, pinned, inks, taps, b, y, line, sums);
-        y += 1;
+    // All rows of the image that the sums take, from top to bottom, with room lent for a row of errors.
+    pub fn correlate(self, scene: Scene<'_>, taps: &[f64], line: &mut [f64], sums: &mut [f64])
+        requires { BlockFits scene.width scene.height self (length taps.now) (length line.old) (length sums.old) }
+        ensures { Spread self.lines 0 self.rows (sum_rows scene.entry.width self (image_of scene.entry) taps.now scene.entry.height) sums.old sums.new }
+    {
+        let end = scene.height.min(self.y + self.rows + self.after);
+        for y in self.y.saturating_sub(self.before)..end {
+            self.add_row(scene, taps, y, line, sums);
+        }
     }
 }

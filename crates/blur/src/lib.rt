@@ -11,9 +11,9 @@ fn gaussian_line(sigma: f64, r: usize, g: &mut [f64])
     requires { (r ≤ 16) × (length g.old ≡ kernel_side r) }
     ensures { g.new ≡ gaussian_line sigma r }
 {
-    for i in 0..g.len() {
+    for (i, x) in g.iter_mut().enumerate() {
         let d = i as f64 - r as f64;
-        g[i] = exp::exp(-(d * d) / (2.0 * sigma * sigma));
+        *x = exp::exp(-(d * d) / (2.0 * sigma * sigma));
     }
 }
 
@@ -22,8 +22,8 @@ fn sum(g: &[f64]) -> f64
     ensures { result ≡ sum_of g.now }
 {
     let mut total = 0.0;
-    for i in 0..g.len() {
-        total += g[i];
+    for x in g {
+        total += *x;
     }
     total
 }
@@ -35,8 +35,8 @@ fn blur_from(g: &[f64], p: &mut [f64])
 {
     let size = g.len();
     let sum = sum(g);
-    for i in 0..p.len() {
-        p[i] = g[i / size] * g[i % size] / (sum * sum);
+    for (i, x) in p.iter_mut().enumerate() {
+        *x = g[i / size] * g[i % size] / (sum * sum);
     }
 }
 

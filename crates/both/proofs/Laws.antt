@@ -26,14 +26,13 @@ use Rattle.spans.specs.Spans.{span_of, pair_span, Fits}
 use Rattle.spans.proofs.Laws.{length-add_at}
 use Rattle.sweep.specs.declared.Source.{Source}
 use Rattle.sweep.specs.Sweep.{Centred, first, past, footprint_of, sweep_pixel, sweep_of}
-use Rattle.sweep.specs.Part.{Part, RowSpan, Steps, pixel_of, row_of, part_of}
-use Rattle.sweep.proofs.Laws.{Axis, axis, whole_part, pixel_is, span_is, below_is}
+use Rattle.sweep.specs.Part.{Part, RowSpan, pixel_of, row_of, part_of}
+use Rattle.sweep.proofs.Laws.{Axis, axis, whole_part, pixel_is, span_is}
 use Rattle.sweep.proofs.Point.{has, has_is, has_yes, has_not, no_true, on, on_idle, Sized, Acts, Rows, acts_then, rows_then, row_of_lem, rows_at, acts, there, sweep_at, sized_sweep, footprint_within}
-use Rattle.both.specs.declared.Range.{Range}
+use Rattle.std.specs.declared.ops.Range.{Range}
 use Rattle.both.specs.declared.Shared.{Shared}
-use Rattle.both.specs.declared.Line.{Line}
 use Rattle.both.specs.declared.Rest.{Rest}
-use Rattle.both.specs.Both.{pair_row, share_row, share_of, line_of, line_below, lone_of, common_of, alone_of, Shares, Lined, LineFits, Twins}
+use Rattle.both.specs.Both.{pair_row, share_row, share_of, lone_of, common_of, alone_of, Shares, Twins}
 
 -- ---- along one axis: two ranges of neighbours
 
@@ -65,12 +64,12 @@ close_axis m n r a b am mb an nb low high =
     }
 
 -- the range that lies in [f, p) alone
-pub record Lone (f p g q : ℕ) (r : Range) : Type 0 where
-  pub low : f ≤ r.lo
-  pub order : r.lo ≤ r.hi
-  pub high : r.hi ≤ p
-  pub narrow : r.hi ≤ r.lo + 1
-  pub only : (x : ℕ) → has r.lo r.hi x ≡ (has f p x && not (has g q x))
+pub record Lone (f p g q : ℕ) (r : Range ℕ) : Type 0 where
+  pub low : f ≤ r.start
+  pub order : r.start ≤ r.end
+  pub high : r.end ≤ p
+  pub narrow : r.end ≤ r.start + 1
+  pub only : (x : ℕ) → has r.start r.end x ≡ (has f p x && not (has g q x))
 
 and_yes : (a b : Bool) → a ≡ true → b ≡ true → (a && b) ≡ true
 and_yes a b p q = rw (p, q)
@@ -223,7 +222,7 @@ module _ (k : Kernel2D) (W : Rect) (m n : Source) (t : Twins W m n) where
   abbrev pub shared : Shared
   shared = record { common = common_of F G; one = (alone_of F G (common_of F G)).columns; two = (alone_of G F (common_of F G)).columns }
 
-  shares : Shares k W m n shared
+  pub shares : Shares k W m n shared
   shares =
       let p = common_part k W m F G one_part one_two two_one in
       let q = other_part k W n G F two_part two_one one_two in
@@ -240,67 +239,28 @@ module _ (k : Kernel2D) (W : Rect) (m n : Source) (t : Twins W m n) where
         two_bottom = refl;
       }
 
-  -- the same as the code has them
-  pub shares_by : (c : Rect) (a b : Rest) → c ≡ common_of F G → a ≡ alone_of F G (common_of F G) → b ≡ alone_of G F (common_of F G) → Shares k W m n (record { common = c; one = a.columns; two = b.columns })
-  shares_by c a b p q r = rw (p, q, r) shares
-
   pub one_rows : Part k W m (alone_of F G (common_of F G)).rows
   one_rows = rows_part k W m F G one_part one_two two_one (common_of F G)
 
   pub two_rows : Part k W n (alone_of G F (common_of F G)).rows
   two_rows = rows_part k W n G F two_part two_one one_two (common_of F G)
 
--- ---- row y of a swap where it stands
+-- ---- row y of a swap
 
-pub steps : (k : Kernel2D) (W : Rect) (m : Source) (C : Rect) → k.radius ≤ max_radius → Part k W m C → Steps k W
-steps k W m C few p = record { radius_limit = few; columns = omega (arith, p.left, p.columns, p.right); right_limit = p.right_limit }
+-- where it stands: what both reach, by the one and by the other, and what each reaches alone
+module _ (h : Channels) (cpp : List Float) (k : Kernel2D) (W : Rect) (m n : Source) (S : Shared) (y : ℕ) (p : Shares k W m n S) (s o one two : Span)
+    (by_one : RowSpan k W m S.common y s) (by_two : RowSpan k W n S.common y o) (one_alone : RowSpan k W m S.one y one) (two_alone : RowSpan k W n S.two y two) where
+  both_at : (i : ℕ) (t : List Float) →
+      add_at h n.a (get_or cpp (o.from + i) nan) (s.at + 3 * i) (add_at h m.a (get_or cpp (s.from + i) nan) (s.at + 3 * i) t)
+      ≡ pixel_of h cpp k W n y (S.common.x0 + i) (pixel_of h cpp k W m y (S.common.x0 + i) t)
+  both_at i t = sym (pixel_is h cpp k W n S.common y p.by_two o by_two i _
+      ∙ rw (by_two.at_is, ← by_one.at_is, pixel_is h cpp k W m S.common y p.by_one s by_one i t))
 
-module _ (k : Kernel2D) (W : Rect) (m n : Source) (S : Shared) (y : ℕ) (l : Line) (p : Shares k W m n S) (r : Lined k W m n S y l) where
-  -- it lies in the window and in the kernel
-  pub line-fits : (cpe cpp : ℕ) → 3 * area W ≤ cpe → k.from + cpp_chroma ≤ cpp → LineFits cpe cpp l
-  line-fits cpe cpp room store = record {
-    common = record { in_cpe = omega (arith, r.by_one.cpe_end, room); in_cpp = omega (arith, r.by_one.cpp_end, store) };
-    other = record { in_cpe = omega (arith, r.by_two.cpe_end, room); in_cpp = omega (arith, r.by_two.cpp_end, store) };
-    one = record { in_cpe = omega (arith, r.one_alone.cpe_end, room); in_cpp = omega (arith, r.one_alone.cpp_end, store) };
-    two = record { in_cpe = omega (arith, r.two_alone.cpe_end, room); in_cpp = omega (arith, r.two_alone.cpp_end, store) };
-    same = r.by_two.pixels_are ∙ sym r.by_one.pixels_are;
-    one_pixel = omega (arith, r.one_alone.pixels_are, p.one_column);
-    two_pixel = omega (arith, r.two_alone.pixels_are, p.two_column);
-  }
-
-  -- and in an image within the limits
-  pub line_low : LineFits (3 * max_pixels) cpp_length l
-  line_low = record {
-    common = record { in_cpe = r.by_one.cpe_limit; in_cpp = r.by_one.cpp_limit };
-    other = record { in_cpe = r.by_two.cpe_limit; in_cpp = r.by_two.cpp_limit };
-    one = record { in_cpe = r.one_alone.cpe_limit; in_cpp = r.one_alone.cpp_limit };
-    two = record { in_cpe = r.two_alone.cpe_limit; in_cpp = r.two_alone.cpp_limit };
-    same = r.by_two.pixels_are ∙ sym r.by_one.pixels_are;
-    one_pixel = omega (arith, r.one_alone.pixels_are, p.one_column);
-    two_pixel = omega (arith, r.two_alone.pixels_are, p.two_column);
-  }
-
-  -- what is added along it is the row
-  pub line_is : (h : Channels) (cpp f : List Float) → line_of h m.a n.a cpp l f ≡ share_row h cpp k W m n S y f
-  unfolding line_of pair_span share_row pair_row from_to
-  line_is h cpp f =
-      rw (span_is h cpp k W n S.two y p.two_alone l.two r.two_alone, span_is h cpp k W m S.one y p.one_alone l.one r.one_alone, r.by_one.pixels_are)
-      (ap (λ (g : List Float). row_of h cpp k W n S.two y (row_of h cpp k W m S.one y g)) (up_to_same (S.common.x1 - S.common.x0) _ _ f (λ i _ t. both_at h cpp i t)))
-    where
-      both_at : (h : Channels) (cpp : List Float) (i : ℕ) (t : List Float) →
-          add_at h n.a (get_or cpp (l.other.from + i) nan) (l.common.at + 3 * i) (add_at h m.a (get_or cpp (l.common.from + i) nan) (l.common.at + 3 * i) t)
-          ≡ pixel_of h cpp k W n y (S.common.x0 + i) (pixel_of h cpp k W m y (S.common.x0 + i) t)
-      both_at h cpp i t = sym (pixel_is h cpp k W n S.common y p.by_two l.other r.by_two i _
-          ∙ rw (r.by_two.at_is, ← r.by_one.at_is, pixel_is h cpp k W m S.common y p.by_one l.common r.by_one i t))
-
-  -- the row below
-  pub lined_below : k.radius ≤ max_radius → k.from ≤ cpp_chroma → S.common.y0 ≤ y → y + 1 < S.common.y1 → Lined k W m n S (y + 1) (line_below k W l)
-  lined_below few store low high = record {
-    by_one = below_is k W m S.common y p.by_one few low l.common r.by_one store high;
-    by_two = below_is k W n S.common y p.by_two few low l.other r.by_two store high;
-    one_alone = below_is k W m S.one y p.one_alone few (omega (arith, p.one_top, low)) l.one r.one_alone store (omega (arith, p.one_bottom, high));
-    two_alone = below_is k W n S.two y p.two_alone few (omega (arith, p.two_top, low)) l.two r.two_alone store (omega (arith, p.two_bottom, high));
-  }
+  pub share_row_is : (f : List Float) → span_of h n.a cpp two (span_of h m.a cpp one (pair_span h m.a n.a cpp s o f)) ≡ share_row h cpp k W m n S y f
+  unfolding pair_span share_row pair_row from_to
+  share_row_is f =
+      rw (span_is h cpp k W n S.two y p.two_alone two two_alone, span_is h cpp k W m S.one y p.one_alone one one_alone, by_one.pixels_are)
+      (ap (λ (g : List Float). row_of h cpp k W n S.two y (row_of h cpp k W m S.one y g)) (up_to_same (S.common.x1 - S.common.x0) _ _ f (λ i _ t. both_at i t)))
 
 -- ---- one value, by the column and the row of its pixel
 
@@ -427,15 +387,10 @@ module _ (h : Channels) (cpp : List Float) (k : Kernel2D) (W : Rect) (m n : Sour
         ∙ sym (sweep_at h n.a cpp k W n.x n.y x y c i b _ (sized_sweep h m.a cpp k W m.x m.y f z)
         ∙ ap (on (has G₀.y0 G₀.y1 y) (on (has G₀.x0 G₀.x1 x) (by n))) (sweep_at h m.a cpp k W m.x m.y x y c i b f z))
 
-  both_is : (f : List Float) → Sized W f → parts f ≡ whole n (whole m f)
+  pub both_is : (f : List Float) → Sized W f → parts f ≡ whole n (whole m f)
   both_is f z =
       ext_cell nan 3 W _ _ (sized_part n B₀.rows _ (sized_part m A₀.rows _ (sized_share (shared k W m n t) f z)))
       (sized_sweep h n.a cpp k W n.x n.y _ (sized_sweep h m.a cpp k W m.x m.y f z)) (λ x y c i b. value_is x y c i b f z)
-
-  -- the same as the code has it
-  pub parts_are : (d : Rect) (a b : Rest) → d ≡ C₀ → a ≡ A₀ → b ≡ B₀ → (f : List Float) → Sized W f →
-      part_of h cpp k W n b.rows (part_of h cpp k W m a.rows (share_of h cpp k W m n (record { common = d; one = a.columns; two = b.columns }) f)) ≡ whole n (whole m f)
-  parts_are d a b p q r f z = rw (p, q, r) (both_is f z)
 
 -- ---- luminance and chrominance change other values, so that either may come first
 

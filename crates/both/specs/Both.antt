@@ -5,15 +5,12 @@ use Rattle.base.specs.declared.Rect.{Rect}
 use Rattle.base.specs.Loop.{from_to}
 use Rattle.base.specs.Grid.{Inside}
 use Rattle.base.specs.Limits.{max_side}
-use Rattle.color.specs.declared.YyCxCz.{YyCxCz}
 use Rattle.cpp.specs.declared.Kernel2D.{Kernel2D}
 use Rattle.spans.specs.declared.Channels.{Channels}
 use Rattle.sweep.specs.declared.Source.{Source}
-use Rattle.spans.specs.Spans.{span_of, pair_span, Fits}
-use Rattle.sweep.specs.Part.{Part, RowSpan, pixel_of, row_of, below_of}
-use Rattle.both.specs.declared.Range.{Range}
+use Rattle.sweep.specs.Part.{Part, pixel_of, row_of}
+use Rattle.std.specs.declared.ops.Range.{Range}
 use Rattle.both.specs.declared.Shared.{Shared}
-use Rattle.both.specs.declared.Line.{Line}
 use Rattle.both.specs.declared.Rest.{Rest}
 
 module _ (h : Channels) (cpp : List Float) (k : Kernel2D) (W : Rect) (m n : Source) where
@@ -28,20 +25,11 @@ module _ (h : Channels) (cpp : List Float) (k : Kernel2D) (W : Rect) (m n : Sour
   unfoldable pub share_of : Shared → List Float → List Float
   share_of S f = from_to S.common.y0 S.common.y1 (share_row S) f
 
--- ---- the same by where it stands
-
-unfoldable pub line_of : Channels → YyCxCz → YyCxCz → List Float → Line → List Float → List Float
-line_of h a b cpp l f = span_of h b cpp l.two (span_of h a cpp l.one (pair_span h a b cpp l.common l.other f))
-
--- a row further down
-abbrev pub line_below : Kernel2D → Rect → Line → Line
-line_below k W l = record { common = below_of k W l.common; other = below_of k W l.other; one = below_of k W l.one; two = below_of k W l.two }
-
 -- ---- the parts
 
 -- along one axis, what lies in [f, p) and not in [g, q): one of the two sides, as neighbours are at most 1 apart
-unfoldable pub lone_of : ℕ → ℕ → ℕ → ℕ → Range
-lone_of f p g q = cond (ltb f g) (record { lo = f; hi = g }) (record { lo = min p q; hi = p })
+unfoldable pub lone_of : ℕ → ℕ → ℕ → ℕ → Range ℕ
+lone_of f p g q = cond (ltb f g) (record { start = f; end = g }) (record { start = min p q; end = p })
 
 -- what the footprints F and G share
 abbrev pub common_of : Rect → Rect → Rect
@@ -50,8 +38,8 @@ common_of F G = record { x0 = max F.x0 G.x0; y0 = max F.y0 G.y0; x1 = min F.x1 G
 -- what F has besides: columns in the rows of C, which they share, and whole rows
 abbrev pub alone_of : Rect → Rect → Rect → Rest
 alone_of F G C = record {
-  columns = record { x0 = (lone_of F.x0 F.x1 G.x0 G.x1).lo; y0 = C.y0; x1 = (lone_of F.x0 F.x1 G.x0 G.x1).hi; y1 = C.y1 };
-  rows = record { x0 = F.x0; y0 = (lone_of F.y0 F.y1 G.y0 G.y1).lo; x1 = F.x1; y1 = (lone_of F.y0 F.y1 G.y0 G.y1).hi };
+  columns = record { x0 = (lone_of F.x0 F.x1 G.x0 G.x1).start; y0 = C.y0; x1 = (lone_of F.x0 F.x1 G.x0 G.x1).end; y1 = C.y1 };
+  rows = record { x0 = F.x0; y0 = (lone_of F.y0 F.y1 G.y0 G.y1).start; x1 = F.x1; y1 = (lone_of F.y0 F.y1 G.y0 G.y1).end };
 }
 
 -- ---- what the code asks for
@@ -68,23 +56,6 @@ pub record Shares (k : Kernel2D) (W : Rect) (m n : Source) (S : Shared) : Type 0
   pub one_bottom : S.one.y1 ≡ S.common.y1
   pub two_top : S.two.y0 ≡ S.common.y0
   pub two_bottom : S.two.y1 ≡ S.common.y1
-
--- l is where row y of a swap stands
-pub record Lined (k : Kernel2D) (W : Rect) (m n : Source) (S : Shared) (y : ℕ) (l : Line) : Type 0 where
-  pub by_one : RowSpan k W m S.common y l.common
-  pub by_two : RowSpan k W n S.common y l.other
-  pub one_alone : RowSpan k W m S.one y l.one
-  pub two_alone : RowSpan k W n S.two y l.two
-
--- a row of a swap lies in so many values of `cpe` and of the kernel store
-pub record LineFits (cpe cpp : ℕ) (l : Line) : Type 0 where
-  pub common : Fits cpe cpp l.common
-  pub other : Fits cpe cpp l.other
-  pub one : Fits cpe cpp l.one
-  pub two : Fits cpe cpp l.two
-  pub same : l.other.pixels ≡ l.common.pixels
-  pub one_pixel : l.one.pixels ≤ 1
-  pub two_pixel : l.two.pixels ≤ 1
 
 -- two sources in a window of an image within the limits, at most 1 apart both ways
 pub record Twins (W : Rect) (m n : Source) : Type 0 where

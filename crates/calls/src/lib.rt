@@ -2,230 +2,166 @@
 // answers are written in that file's form. In a line, numbers from 0 count its words.
 #![tactic(auto)]
 
-use accepted::DbsStats;
 use base::Index;
-use found::DbsFound;
-use given::Given;
-use perceived::Measured;
+use checksum::Checksum;
+use given::{Lent, Store};
+use lines::{Bits, Line, Runs, part_mut};
+use std::fmt;
 use std::io::{self, Print};
 
-// The count of a pass, if it was run.
-fn print_count(rt: &impl Print, count: u32, pass: usize, passes: u64) -> io::Result<()> {
-    if pass as u64 >= passes {
-        return Ok(());
-    }
-    if pass > 0 {
-        print!(rt; ",")?;
-    }
-    print!(rt; "{count}")
-}
-
-fn print_counts(rt: &impl Print, counts: &[u32], passes: u64) -> io::Result<()> {
-    if passes == 0 {
-        print!(rt; "-")?;
-    }
-    for (pass, count) in counts.iter().enumerate() {
-        print_count(rt, *count, pass, passes)?;
-    }
-    Ok(())
-}
-
-fn print_stats(rt: &impl Print, stats: DbsStats) -> io::Result<()> {
-    print!(rt; "refine")?;
-    lines::print_number(rt, stats.number)?;
-    lines::print_number(rt, stats.place)?;
-    lines::print_number(rt, stats.passes)?;
-    lines::print_float(rt, stats.initial_error)?;
-    lines::print_float(rt, stats.final_error)
-}
-
-fn print_buffers(
-    rt: &impl Print,
+// The counts of the passes that were run.
+#[derive(Clone, Copy)]
+struct Counts<'a> {
+    counts: &'a [u32],
     passes: u64,
-    indices: &[Index],
-    cpe: &[f64],
-    cpp: &[f64],
-    counts: &[u32],
-    inks: &[f64],
-) -> io::Result<()> {
-    lines::space(rt)?;
-    lines::print_bytes(rt, indices)?;
-    lines::space(rt)?;
-    print_counts(rt, counts, passes)?;
-    given::print_floats(rt, cpe)?;
-    given::print_floats(rt, cpp)?;
-    lines::print_sum(rt, checksum::counts(counts))?;
-    given::print_floats(rt, inks)?;
-    lines::end_line(rt)
 }
 
-fn print_measured(rt: &impl Print, m: Measured) -> io::Result<()> {
-    print!(rt; "measure")?;
-    lines::print_number(rt, m.number)?;
-    lines::print_number(rt, m.place)?;
-    lines::print_float(rt, m.error)?;
-    lines::end_line(rt)
+impl fmt::Display for Counts<'_> {
+    fn fmt<W: fmt::Write>(&self, f: &mut fmt::Formatter<W>) -> fmt::Result {
+        if self.passes == 0 {
+            return write!(f, "-");
+        }
+        for (pass, count) in self.counts.iter().take(self.passes as usize).enumerate() {
+            if pass > 0 {
+                write!(f, ",")?;
+            }
+            write!(f, "{count}")?;
+        }
+        Ok(())
+    }
 }
 
-fn print_found(
-    rt: &impl Print,
-    f: DbsFound,
-    cpe: &[f64],
-    cpp: &[f64],
-    inks: &[f64],
-) -> io::Result<()> {
-    print!(rt; "find")?;
-    lines::print_number(rt, f.number)?;
-    lines::print_number(rt, f.place)?;
-    lines::print_number(rt, f.found)?;
-    lines::print_number(rt, f.pixel)?;
-    lines::print_number(rt, f.kind)?;
-    lines::print_float(rt, f.cost)?;
-    given::print_floats(rt, cpe)?;
-    given::print_floats(rt, cpp)?;
-    given::print_floats(rt, inks)?;
-    lines::end_line(rt)
+// The buffers of a call.
+#[derive(Drop)]
+struct Buffers {
+    lent: Lent<16384>,
+    indices: [Index; 16384],
+}
+
+impl Buffers {
+    // Each cell is set.
+    fn new() -> Buffers {
+        Buffers {
+            lent: Lent::new(),
+            indices: [255; 16384],
+        }
+    }
 }
 
 // The indices are refined in a buffer of their own.
-fn refine(
-    rt: &impl Print,
-    line: &[u8],
-    g: Given,
-    given: &[u8],
-    indices: &mut [Index],
-    cpe: &mut [f64],
-    cpp: &mut [f64],
-    counts: &mut [u32],
-    inks: &mut [f64],
-) -> io::Result<()> {
-    let indices = lines::read_part(line, 9, indices);
-    let cpe = lines::floats(line, 10, cpe, 0);
-    let cpp = lines::floats(line, 11, cpp, 0);
-    let counts = lines::counts(line, 12, counts);
-    let inks = lines::floats(line, 13, inks, 0);
-    let stats = dbs::dbs_refine(
-        given::pixels(given, g),
-        lines::number(line, 1),
-        lines::number(line, 2),
-        given::palette(given, g),
+fn refine(rt: &impl Print, line: Line<'_>, buffers: &mut Buffers) -> io::Result<()> {
+    let Buffers {
+        lent: Lent {
+            store,
+            cpe,
+            cpp,
+            counts,
+            inks,
+        },
         indices,
-        given::pinned(given, g),
-        lines::float(line, 4),
-        lines::float(line, 5),
-        lines::number(line, 3),
+    } = buffers;
+    let given = store.read(line);
+    let indices = line.bytes(9, indices);
+    let cpe = part_mut(cpe, line.number(10));
+    let cpp = part_mut(cpp, line.number(11));
+    let counts = part_mut(counts, line.number(12));
+    let inks = part_mut(inks, line.number(13));
+    let stats = dbs::dbs_refine(
+        given.pixels,
+        given.width,
+        given.height,
+        given.palette,
+        indices,
+        given.pinned,
+        given.ppi,
+        given.viewing_distance_cm,
+        given.max_passes,
         cpe,
         cpp,
         counts,
         inks,
     );
-    print_stats(rt, stats)?;
-    print_buffers(rt, stats.passes, indices, cpe, cpp, counts, inks)
+    print!(rt;
+        "refine {} {} {} {} {} ",
+        stats.number,
+        stats.place,
+        stats.passes,
+        Bits(stats.initial_error),
+        Bits(stats.final_error)
+    )?;
+    let passes = stats.passes;
+    println!(rt;
+        "{} {} {} {} {} {}",
+        Runs(indices),
+        Counts { counts, passes },
+        Checksum::of(cpe),
+        Checksum::of(cpp),
+        Checksum::of(counts),
+        Checksum::of(inks)
+    )
 }
 
-fn measure(rt: &impl Print, line: &[u8], g: Given, given: &[u8]) -> io::Result<()> {
-    let m = dbs::perceived_error(
-        given::pixels(given, g),
-        lines::number(line, 1),
-        lines::number(line, 2),
-        given::palette(given, g),
-        given::indices(given, g),
-        lines::float(line, 4),
-        lines::float(line, 5),
+fn measure(rt: &impl Print, line: Line<'_>, store: &mut Store) -> io::Result<()> {
+    let given = store.read(line);
+    let measured = dbs::perceived_error(
+        given.pixels,
+        given.width,
+        given.height,
+        given.palette,
+        given.indices,
+        given.ppi,
+        given.viewing_distance_cm,
     );
-    print_measured(rt, m)
+    println!(rt;
+        "measure {} {} {}",
+        measured.number,
+        measured.place,
+        Bits(measured.error)
+    )
 }
 
-fn find(
-    rt: &impl Print,
-    line: &[u8],
-    g: Given,
-    given: &[u8],
-    cpe: &mut [f64],
-    cpp: &mut [f64],
-    inks: &mut [f64],
-) -> io::Result<()> {
-    let cpe = lines::floats(line, 10, cpe, 0);
-    let cpp = lines::floats(line, 11, cpp, 0);
-    let inks = lines::floats(line, 13, inks, 0);
-    let f = dbs::dbs_find_move(
-        given::pixels(given, g),
-        lines::number(line, 1),
-        lines::number(line, 2),
-        given::palette(given, g),
-        given::indices(given, g),
-        given::pinned(given, g),
-        lines::float(line, 4),
-        lines::float(line, 5),
+fn find(rt: &impl Print, line: Line<'_>, lent: &mut Lent<16384>) -> io::Result<()> {
+    let Lent {
+        store,
+        cpe,
+        cpp,
+        inks,
+        ..
+    } = lent;
+    let given = store.read(line);
+    let cpe = part_mut(cpe, line.number(10));
+    let cpp = part_mut(cpp, line.number(11));
+    let inks = part_mut(inks, line.number(13));
+    let found = dbs::dbs_find_move(
+        given.pixels,
+        given.width,
+        given.height,
+        given.palette,
+        given.indices,
+        given.pinned,
+        given.ppi,
+        given.viewing_distance_cm,
         cpe,
         cpp,
         inks,
     );
-    print_found(rt, f, cpe, cpp, inks)
-}
-
-fn refine_in(
-    rt: &impl Print,
-    text: &[u8],
-    given: &mut [u8],
-    indices: &mut [Index],
-    cpe: &mut [f64],
-    cpp: &mut [f64],
-    counts: &mut [u32],
-    inks: &mut [f64],
-) -> io::Result<()> {
-    let from = 0;
-    let end = lines::line_end(text, from);
-    let line = &text[from..end];
-    let g = given::read_given(line, given);
-    refine(rt, line, g, given, indices, cpe, cpp, counts, inks)?;
-    measure(rt, line, g, given)
-}
-
-fn find_in(
-    rt: &impl Print,
-    text: &[u8],
-    given: &mut [u8],
-    cpe: &mut [f64],
-    cpp: &mut [f64],
-    inks: &mut [f64],
-) -> io::Result<()> {
-    let from = 0;
-    let end = lines::line_end(text, from);
-    let line = &text[from..end];
-    let g = given::read_given(line, given);
-    find(rt, line, g, given, cpe, cpp, inks)
-}
-
-// A call finds each cell of every buffer set.
-fn call_refine(rt: &impl Print, text: &[u8]) -> io::Result<()> {
-    let mut given = [255u8; 65536];
-    let mut indices = [255u8; 16384];
-    let mut cpe = [-1.0f64; 16384];
-    let mut cpp = [-1.0f64; 8500];
-    let mut counts = [4294967295u32; 1024];
-    let mut inks = [-1.0f64; 1024];
-    refine_in(
-        rt,
-        text,
-        &mut given,
-        &mut indices,
-        &mut cpe,
-        &mut cpp,
-        &mut counts,
-        &mut inks,
+    println!(rt;
+        "find {} {} {} {} {} {} {} {} {}",
+        found.number,
+        found.place,
+        found.found,
+        found.pixel,
+        found.kind,
+        Bits(found.cost),
+        Checksum::of(cpe),
+        Checksum::of(cpp),
+        Checksum::of(inks)
     )
 }
 
-fn call_find(rt: &impl Print, text: &[u8]) -> io::Result<()> {
-    let mut given = [255u8; 65536];
-    let mut cpe = [-1.0f64; 16384];
-    let mut cpp = [-1.0f64; 8500];
-    let mut inks = [-1.0f64; 1024];
-    find_in(rt, text, &mut given, &mut cpe, &mut cpp, &mut inks)
-}
-
-pub fn call(rt: &impl Print, text: &[u8]) -> io::Result<()> {
-    call_refine(rt, text)?;
-    call_find(rt, text)
+// A call finds each cell of every buffer set.
+pub fn call(rt: &impl Print, line: Line<'_>) -> io::Result<()> {
+    refine(rt, line, &mut Buffers::new())?;
+    measure(rt, line, &mut Store::new())?;
+    find(rt, line, &mut Lent::new())
 }

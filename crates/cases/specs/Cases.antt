@@ -1,5 +1,5 @@
 -- The twelve cases of document 01, 'How a reader trusts it', line by line: on the left what the definitions give, on the right the outcome.
-use Rattle.std.specs.Prelude.{ℕ, ◌+◌, ◌*◌, ◌/◌, ◌%◌, ◌≡◌, Bool, true, false, cond, ◌||◌, List, [], ◌∷◌, eqb, length, get_or, Float}
+use Rattle.std.specs.Prelude.{ℕ, ◌+◌, ◌*◌, ◌/◌, ◌%◌, ◌≡◌, Bool, true, false, cond, ◌||◌, List, [], ◌∷◌, eqb, length, get_or, Float, Some, None}
 use Rattle.std.specs.Float.{nan}
 use Rattle.std.specs.Float.Ieee.{neg}
 use Rattle.base.specs.declared.Rect.{Rect}
@@ -12,7 +12,6 @@ use Rattle.color.specs.YyCxCz.{yycxcz}
 use Rattle.eye.specs.Eye.{blur_radius}
 use Rattle.tiling.specs.declared.Tiling.{Tiling}
 use Rattle.tiling.specs.Tiling.{image, margin, side, in_phase, tile, region}
-use Rattle.neighbour.specs.declared.Adjacent.TheVariants.{Pixel, Outside}
 use Rattle.neighbour.specs.Neighbour.{neighbour_of}
 use Rattle.pins.specs.Pins.{pinned_at}
 use Rattle.cpp.specs.Kernel.{lum_kernel, chroma_kernel, kernel_place}
@@ -130,9 +129,9 @@ cases =
     -- w 65, h 64, margin 13: tile 1 in phase 1, its region x 51–64
     ∷ (placed_tile (tiling 65 64 6 12) 1 ⇒ (13, false ∷ true ∷ false ∷ false ∷ [], record { x0 = 51; y0 = 0; x1 = 65; y1 = 64 }))
     -- dot (0,0), code 0: no neighbour
-    ∷ (neighbour_of 0 0 0 2 2 ⇒ Outside)
+    ∷ (neighbour_of 0 0 0 2 2 ⇒ None)
     -- code 4, w 1; 2: none; (1,0)
-    ∷ (neighbour_of 4 0 0 1 1 ∷ neighbour_of 4 0 0 2 1 ∷ [] ⇒ Outside ∷ Pixel 1 0 ∷ [])
+    ∷ (neighbour_of 4 0 0 1 1 ∷ neighbour_of 4 0 0 2 1 ∷ [] ⇒ None ∷ Some (1, 0) ∷ [])
     -- H, one dot 0, target 1: toggle, −1
     ∷ (hand two_inks [] (0 ∷ []) (1 ∷ []) ⇒ (best (Toggle 1) minus1, after (f0 ∷ f0 ∷ f0 ∷ []) (1 ∷ []) 1 minus1))
     -- H, a third ink equal to ink 1: ink 1 taken

@@ -1,73 +1,105 @@
 // Checksums of lent buffers, for the programs that are held to the copy of the Rust.
 #![tactic(auto)]
 
-ghost use Rattle.std.specs.Prelude.{◌<◌};
+ghost use Rattle.std.specs.Prelude.{◌≡◌, ℕ, ◌<◌, fold};
+ghost use Rattle.std.specs.Float.{binary64};
+ghost use Rattle.std.specs.Float.Ieee.{to_bits};
+ghost use Rattle.checksum.specs.Mixed.{mixed, mixed_word};
 
-// One step of the checksum.
-pub fn mix(h: u64, half: u64) -> u64
-    requires { (h < 4294967291) × (half < 4294967296) }
-    ensures { result < 4294967291 }
-{
-    (31 * h + half) % 4294967291
+use std::fmt;
+use std::marker::Model;
+
+const MODULUS: u64 = 4294967291;
+
+// A checksum of what was mixed into it, in order; a clause sees the number.
+#[derive(Clone, Copy)]
+pub struct Checksum {
+    value: u64,
 }
 
-// The checksum h, carried on over values: of each first the high and then the low 32 bits.
-pub fn floats(h: u64, values: &[f64]) -> u64
-    requires { h < 4294967291 }
-    ensures { result < 4294967291 }
-{
-    let mut sum = h;
-    for i in 0..values.len() {
-        sum = mix_word(sum, bits::of_float(values[i]));
+impl Model for Checksum {
+    ghost Value = { ℕ };
+
+    ghost view = { λ c. c.value };
+
+    ghost invariant = { λ c. c.value < 4294967291 };
+
+    ghost inverse = { λ n. record { value = n } };
+}
+
+impl Checksum {
+    // The checksum of values.
+    pub fn of<T: Mix>(values: &[T]) -> Checksum
+        ensures { result ≡ fold T.mixed_item 0 values.now }
+    {
+        Checksum { value: 0 }.with(values)
     }
-    sum
-}
 
-// The checksum of counts.
-pub fn counts(values: &[u32]) -> u64 {
-    let mut sum = 0;
-    for i in 0..values.len() {
-        sum = mix_count(sum, values[i]);
+    // The checksum, carried on over values.
+    pub fn with<T: Mix>(self, values: &[T]) -> Checksum
+        ensures { result ≡ fold T.mixed_item self values.now }
+    {
+        values.iter().fold(self, |sum, x| x.mix_into(sum))
     }
-    sum
-}
 
-fn mix_count(h: u64, count: u32) -> u64
-    requires { h < 4294967291 }
-    ensures { result < 4294967291 }
-{
-    mix(h, count as u64 % 4294967296)
-}
-
-// The checksum of bytes.
-pub fn bytes(values: &[u8]) -> u64 {
-    let mut sum = 0;
-    for i in 0..values.len() {
-        sum = mix_byte(sum, values[i]);
+    // One step of the checksum.
+    pub fn mix(self, half: u32) -> Checksum
+        ensures { result ≡ mixed self half }
+    {
+        Checksum {
+            value: (31 * self.value + u64::from(half)) % MODULUS,
+        }
     }
-    sum
 }
 
-fn mix_byte(h: u64, byte: u8) -> u64
-    requires { h < 4294967291 }
-    ensures { result < 4294967291 }
-{
-    mix(h, byte as u64)
-}
-
-// The checksum of words, each as a float's bits.
-pub fn words(values: &[u64]) -> u64 {
-    let mut sum = 0;
-    for i in 0..values.len() {
-        sum = mix_word(sum, values[i]);
+// Its number, as eight digits of base 16.
+impl fmt::Display for Checksum {
+    fn fmt<W: fmt::Write>(&self, f: &mut fmt::Formatter<W>) -> fmt::Result {
+        let value = self.value;
+        write!(f, "{value:08x}")
     }
-    sum
 }
 
-// The high and then the low 32 bits.
-fn mix_word(h: u64, word: u64) -> u64
-    requires { h < 4294967291 }
-    ensures { result < 4294967291 }
-{
-    mix(mix(h, word / 4294967296), word % 4294967296)
+// What an item of a buffer adds to a checksum.
+pub trait Mix {
+    ghost mixed_item: { ℕ → Self → ℕ };
+
+    fn mix_into(&self, sum: Checksum) -> Checksum
+        ensures { result ≡ mixed_item sum self.now };
+}
+
+// First the high and then the low 32 bits.
+impl Mix for u64 {
+    ghost mixed_item = { mixed_word };
+
+    fn mix_into(&self, sum: Checksum) -> Checksum {
+        let word = *self;
+        sum.mix((word / 4294967296) as u32)
+            .mix((word % 4294967296) as u32)
+    }
+}
+
+// A float as its bits.
+impl Mix for f64 {
+    ghost mixed_item = { λ sum x. mixed_word sum (to_bits binary64 x) };
+
+    fn mix_into(&self, sum: Checksum) -> Checksum {
+        bits::of_float(*self).mix_into(sum)
+    }
+}
+
+impl Mix for u32 {
+    ghost mixed_item = { mixed };
+
+    fn mix_into(&self, sum: Checksum) -> Checksum {
+        sum.mix(*self)
+    }
+}
+
+impl Mix for u8 {
+    ghost mixed_item = { mixed };
+
+    fn mix_into(&self, sum: Checksum) -> Checksum {
+        sum.mix(u32::from(*self))
+    }
 }

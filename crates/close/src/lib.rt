@@ -3,12 +3,13 @@
 #![tactic(auto)]
 
 ghost use Rattle.std.specs.Prelude.{◌≡◌};
+ghost use Rattle.std.specs.Result.{result_unwrap_or};
+ghost use Rattle.base.specs.Answer.{status_of};
 ghost use Rattle.job.specs.Boundary.{close_run};
 ghost use Rattle.job.specs.Close.{closed, close_of};
 
-use base::Status;
+use base::Refusal;
 use job::JobRecord;
-use words::Answer;
 
 // Join the phase's deltas to the error and go on to the next phase.
 fn close(
@@ -16,22 +17,16 @@ fn close(
     accepted_per_pass: &mut [u32],
     tile_states: &mut [u8],
     deltas: &[f64],
-) -> Answer
-    ensures { closed result.status result.record accepted_per_pass.new tile_states.new ≡ close_of r accepted_per_pass.old tile_states.old deltas.now }
+) -> Result<JobRecord, Refusal>
+    ensures { closed (status_of result) (result_unwrap_or result r) accepted_per_pass.new tile_states.new ≡ close_of r accepted_per_pass.old tile_states.old deltas.now }
 {
-    let status = closetests::check_close(r, accepted_per_pass, tile_states, deltas);
-    if status.number != 0 {
-        return Answer { status, record: r };
-    }
+    closetests::check_close(r, accepted_per_pass, tile_states, deltas)?;
     let plan = r.plan;
     let phase = r.phase as usize;
     let error = nextphase::add_deltas(plan.tiling, phase, deltas, r.error);
     nextphase::release(plan.tiling, phase, tile_states);
     nextphase::store_count(r, accepted_per_pass);
-    Answer {
-        status,
-        record: nextphase::next_record(r, error),
-    }
+    Ok(nextphase::next_record(r, error))
 }
 
 // The same on the run that the record is for a C host.
@@ -40,14 +35,11 @@ pub fn close_run(
     accepted_per_pass: &mut [u32],
     tile_states: &mut [u8],
     deltas: &[f64],
-) -> Status
-    ensures { closed result «record».new accepted_per_pass.new tile_states.new ≡ close_run «record».old accepted_per_pass.old tile_states.old deltas.now }
+) -> Result<(), Refusal>
+    ensures { closed (status_of result) «record».new accepted_per_pass.new tile_states.new ≡ close_run «record».old accepted_per_pass.old tile_states.old deltas.now }
 {
-    let run = words::read(record);
-    let status = run.status;
-    if status.number != 0 {
-        return status;
-    }
-    let closed = close(run.record, accepted_per_pass, tile_states, deltas);
-    written::leave(record, closed)
+    let r = words::read(record)?;
+    let closed = close(r, accepted_per_pass, tile_states, deltas)?;
+    written::rewrite(record, closed);
+    Ok(())
 }

@@ -1,13 +1,12 @@
 -- Where the values of an ink stand: three to an ink, so that of a place the quotient by 3 is the ink and the rest the channel. Assumes nothing.
 use Prim.Native.Nat.{ℕ, ◌+◌, ◌*◌, ◌/◌, ◌%◌, ◌<◌}
 use native.Mathlib.Omega.{arith}
-use mathlib.Core.Path.{◌≡◌, sym, ◌∙◌}
+use mathlib.Core.Path.{◌≡◌, sym, ap, ◌∙◌}
 use mathlib.Core.List.{List}
 use lib.ListN.{length, get_or, set}
 use lib.Ieee.{Float}
 use Rattle.base.proofs.TableLaws.{length-table, get_d_table, filled, fill_turn}
 use Rattle.color.specs.declared.YyCxCz.{YyCxCz}
-use Rattle.color.specs.YyCxCz.{yycxcz}
 use Rattle.color.specs.Inks.{channel, ink, ink_value, ink_values}
 
 value_at_lem : (palette : List ℕ) (k c : ℕ) → c < 3 → ink_value palette (3 * k + c) ≡ channel c (ink palette k)
@@ -26,15 +25,10 @@ pub ink_value_lem : (palette : List ℕ) (k c : ℕ) (d : Float) → c < 3 → 3
 unfolding ink_values
 ink_value_lem palette k c d h l = get_d_table (length palette) (ink_value palette) (3 * k + c) d l ∙ value_at_lem palette k c h
 
--- ---- one ink more, at the place i
+-- ---- one ink more: its values, which stand from 3 k on
 
--- its values, of the bytes that stand at the same places
-pub value_here : (palette : List ℕ) (i : ℕ) → i % 3 ≡ 0 → (y : YyCxCz) → y ≡ yycxcz (get_or palette i 0) (get_or palette (i + 1) 0) (get_or palette (i + 2) 0) →
-    (c : ℕ) → c < 3 → channel c y ≡ ink_value palette (i + c)
-unfolding ink
-value_here palette i w y e c h =
-    let k : i ≡ 3 * (i / 3) = omega arith in
-    rw (e, k) (sym (value_at_lem palette (i / 3) c h))
+pub value_here : (palette : List ℕ) (k : ℕ) (y : YyCxCz) → y ≡ ink palette k → (c : ℕ) → c < 3 → channel c y ≡ ink_value palette (3 * k + c)
+value_here palette k y e c h = ap (channel c) e ∙ sym (value_at_lem palette k c h)
 
 -- three elements stored into a slice that is filled up to i
 pub fill_three : {A : Type 0} (d : A) (i : ℕ) (f : ℕ → A) (s g : List A) (a b c : A) → i + 2 < length s → g ≡ filled i f s →

@@ -1,6 +1,8 @@
 -- A palette's inks in YyCxCz: document 01's 'ink values (3 f64 per ink)', from 'Palette: 3 bytes for each of 1–256 inks'.
 use Rattle.std.specs.Prelude.{ℕ, zero, suc, ◌+◌, ◌*◌, ◌/◌, ◌%◌, List, length, get_or, Float}
 use Rattle.base.specs.Loop.{table}
+use Rattle.color.specs.declared.Channel.{Channel}
+use Rattle.color.specs.declared.Channel.TheVariants.{Yy, Cx, Cz}
 use Rattle.color.specs.declared.YyCxCz.{YyCxCz}
 use Rattle.color.specs.YyCxCz.{yycxcz}
 
@@ -9,6 +11,12 @@ unfoldable pub channel : ℕ → YyCxCz → Float
 channel zero c = c.yy
 channel (suc zero) c = c.cx
 channel (suc (suc n)) c = c.cz
+
+-- the number of a channel that the code names
+abbrev pub number : Channel → ℕ
+number Yy = 0
+number Cx = 1
+number Cz = 2
 
 -- ink k; of a palette of whole inks no byte past the end is read
 unfoldable pub ink : List ℕ → ℕ → YyCxCz

@@ -5,17 +5,70 @@
 #![tactic(auto)]
 
 ghost use Rattle.std.specs.Prelude.{◌≡◌, ◌+◌, ◌<◌, ◌%◌, length};
-ghost use Rattle.light.specs.Lut.{srgb_to_linear, linear};
 ghost use Rattle.color.specs.YyCxCz.{yycxcz};
-ghost use Rattle.color.specs.Inks.{ink_values};
-ghost use Rattle.color.specs.Values.{values_at, less_of};
+ghost use Rattle.color.specs.Inks.{channel, number, ink_values};
+ghost use Rattle.color.specs.Values.{values_at, less_of, neg_of};
+
+use std::ops::{Neg, Sub};
 
 // A colour: luminance Yy, red-green chrominance Cx, yellow-blue chrominance Cz.
-#[derive(Clone, Copy)]
+#[derive(Clone, Copy, Default)]
 pub struct YyCxCz {
     pub yy: f64,
     pub cx: f64,
     pub cz: f64,
+}
+
+// One of the three.
+#[derive(Clone, Copy)]
+pub enum Channel {
+    Yy,
+    Cx,
+    Cz,
+}
+
+impl Channel {
+    pub const ALL: [Channel; 3] = [Channel::Yy, Channel::Cx, Channel::Cz];
+}
+
+impl YyCxCz {
+    pub fn channel(self, c: Channel) -> f64
+        ensures { result ≡ channel (number c) self }
+    {
+        match c {
+            Channel::Yy => self.yy,
+            Channel::Cx => self.cx,
+            Channel::Cz => self.cz,
+        }
+    }
+}
+
+impl Sub for YyCxCz {
+    type Output = YyCxCz;
+
+    ghost sub_gives = { λ a b r. r ≡ less_of a b };
+
+    fn sub(self, other: YyCxCz) -> YyCxCz {
+        YyCxCz {
+            yy: self.yy - other.yy,
+            cx: self.cx - other.cx,
+            cz: self.cz - other.cz,
+        }
+    }
+}
+
+impl Neg for YyCxCz {
+    type Output = YyCxCz;
+
+    ghost neg_gives = { λ a r. r ≡ neg_of a };
+
+    fn neg(self) -> YyCxCz {
+        YyCxCz {
+            yy: -self.yy,
+            cx: -self.cx,
+            cz: -self.cz,
+        }
+    }
 }
 
 // SRGB_TO_XYZ, linear sRGB to XYZ (D65), IEC 61966-2-1: X_R is red's entry in the row of X, and so on.
@@ -46,13 +99,12 @@ const Z_N: f64 = Z_R + Z_G + Z_B;
 
 // sRGB bytes to YyCxCz: Yy = 116 Y / Yn, Cx = 500 (X / Xn - Y / Yn), Cz = 200 (Y / Yn - Z / Zn).
 // The white point is sRGB white, so (255, 255, 255) has no chroma.
-pub fn srgb_to_yycxcz(lut: &[u64; 256], r: u8, g: u8, b: u8) -> YyCxCz
-    requires { lut.now ≡ srgb_to_linear }
+pub fn srgb_to_yycxcz(r: u8, g: u8, b: u8) -> YyCxCz
     ensures { result ≡ yycxcz r g b }
 {
-    let r = light::srgb_channel_to_linear(lut, r);
-    let g = light::srgb_channel_to_linear(lut, g);
-    let b = light::srgb_channel_to_linear(lut, b);
+    let r = light::linear(r);
+    let g = light::linear(g);
+    let b = light::linear(b);
     let x = X_R * r + X_G * g + X_B * b;
     let y = Y_R * r + Y_G * g + Y_B * b;
     let z = Z_R * r + Z_G * g + Z_B * b;
@@ -64,19 +116,17 @@ pub fn srgb_to_yycxcz(lut: &[u64; 256], r: u8, g: u8, b: u8) -> YyCxCz
 }
 
 // The inks of a palette in YyCxCz: 3 sRGB bytes to an ink, and 3 values.
-pub fn palette_to_inks(lut: &[u64; 256], palette: &[u8], inks: &mut [f64])
-    requires lut_value { lut.now ≡ srgb_to_linear }
+pub fn palette_to_inks(palette: &[u8], inks: &mut [f64])
     requires palette_len { length palette.now % 3 ≡ 0 }
     requires inks_len { length inks.old ≡ length palette.now }
     ensures { inks.new ≡ ink_values palette.now }
 {
-    let mut i = 0;
-    while i < palette.len() {
-        let ink = srgb_to_yycxcz(lut, palette[i], palette[i + 1], palette[i + 2]);
+    for k in 0..palette.len() / 3 {
+        let i = 3 * k;
+        let ink = srgb_to_yycxcz(palette[i], palette[i + 1], palette[i + 2]);
         inks[i] = ink.yy;
         inks[i + 1] = ink.cx;
         inks[i + 2] = ink.cz;
-        i += 3;
     }
 }
 
@@ -89,16 +139,5 @@ pub fn values_at(l: &[f64], j: usize) -> YyCxCz
         yy: l[j],
         cx: l[j + 1],
         cz: l[j + 2],
-    }
-}
-
-// a less b, channel by channel.
-pub fn less(a: YyCxCz, b: YyCxCz) -> YyCxCz
-    ensures { result ≡ less_of a b }
-{
-    YyCxCz {
-        yy: a.yy - b.yy,
-        cx: a.cx - b.cx,
-        cz: a.cz - b.cz,
     }
 }

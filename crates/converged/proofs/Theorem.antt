@@ -2,15 +2,17 @@
 -- from the same image stay alike (Walks.antt). Assumes nothing.
 use Prim.Native.Nat.{ℕ, ◌+◌, ◌-◌, ◌*◌, ◌≤◌}
 use native.Mathlib.Omega.{arith}
-use mathlib.Core.Path.{◌≡◌, refl, sym, ap, ◌∙◌, subst}
+use mathlib.Core.Path.{◌≡◌, refl, sym, ap, ◌∙◌}
 use mathlib.Core.Logic.Iff
 use mathlib.Core.Logic.{◌↔◌, ◌⊎◌, inl, inr}
 use mathlib.Core.Bool.{Bool, true, false, cond}
 use mathlib.Core.List.{List, [], ◌∷◌, ◌++◌}
-use lib.ListN.{get_or, length, take}
+use lib.ListN.{get_or, take}
 use lib.Dec.{eqb}
 use lib.Ieee.{Float}
 use borrow.Author.Tests.{ne_eqb}
+use Rattle.std.specs.Prelude.{Option, None, Some}
+use Rattle.std.specs.Option.{is_some}
 use Rattle.base.specs.Loop.{overwrite}
 use Rattle.base.proofs.LoopLaws.{up_to_keeps}
 use Rattle.base.specs.Refusal.{accepted}
@@ -31,27 +33,25 @@ use Rattle.prepare.specs.Prepare.{cpe_of, error_of, shared_of, run_one}
 use Rattle.refine.specs.Refine.{refine_status, refine_accepted, refine_of}
 use Rattle.refine.proofs.Laws.{refine_answers}
 use Rattle.refine.proofs.Promises.{refine_judged}
-use Rattle.firstmove.specs.declared.First.{First}
-use Rattle.firstmove.specs.declared.First.TheVariants.{Nothing, ToggleAt, SwapAt}
-use Rattle.firstmove.specs.FirstMove.{move_of, move_at, is_move, first_in_pass}
+use Rattle.firstmove.specs.declared.FirstMove.{FirstMove as FoundMove}
+use Rattle.firstmove.specs.FirstMove.{move_of, move_at, first_in_pass}
 use Rattle.firstmove.proofs.Laws.{nothing}
 use Rattle.found.specs.declared.DbsFound.{DbsFound}
-use Rattle.found.specs.declared.Answer.TheVariants.{Searched}
-use Rattle.found.specs.Found.{searched_of, found_of}
+use Rattle.found.specs.Found.{searched_of}
 use Rattle.findmove.specs.FindMove.{first_of, search_accepted, Finding, find_status, find_of}
 use Rattle.findmove.proofs.Laws.{find_answers, find_judged}
-use Rattle.converged.specs.Order.{Place, Visited, before_tile, before_pixel}
-use Rattle.converged.specs.Converged.{best_at, Stays, OfKind, FirstMove, start_of, SaysNone, SaysMove, Converged}
+use Rattle.converged.specs.Order.{Place, before_tile, before_pixel}
+use Rattle.converged.specs.Converged.{OfKind, FirstMove, start_of, SaysNone, SaysMove, Converged}
 use Rattle.converged.proofs.Places.{move_not, Found, place_of, pass_stays, pass_found, visited, here, earlier}
 use Rattle.converged.proofs.Walks.{AlikeRun, comes_alike, tiles_alike, none_iff}
 
 -- ---- one pixel
 
-stay_of : (m : Move) (pixel : ℕ) (cost : Float) → move_of pixel cost m ≡ Nothing → m ≡ Stay
+stay_of : (m : Move) (pixel : ℕ) (cost : Float) → move_of pixel cost m ≡ None → m ≡ Stay
 unfolding move_of
 stay_of Stay pixel cost e = refl
-stay_of (Toggle j) pixel cost e = absurd (move_not (ToggleAt pixel cost) (unfold is_move in refl) e)
-stay_of (Swap code) pixel cost e = absurd (move_not (SwapAt pixel cost) (unfold is_move in refl) e)
+stay_of (Toggle j) pixel cost e = absurd (move_not _ refl e)
+stay_of (Swap code) pixel cost e = absurd (move_not _ refl e)
 
 -- what a search tells of a pixel that moves
 pub record Told (m : Move) (pixel : ℕ) (cost : Float) (a : DbsFound) : Type 0 where
@@ -61,9 +61,9 @@ pub record Told (m : Move) (pixel : ℕ) (cost : Float) (a : DbsFound) : Type 0 
   pub cost_is : a.cost ≡ cost
   pub counts : (counted m cost no_progress).accepted ≡ 1
 
-told : (m : Move) (pixel : ℕ) (cost : Float) → is_move (move_of pixel cost m) ≡ true → Told m pixel cost (searched_of (move_of pixel cost m))
+told : (m : Move) (pixel : ℕ) (cost : Float) → is_some (move_of pixel cost m) ≡ true → Told m pixel cost (searched_of (move_of pixel cost m))
 unfolding move_of searched_of
-told Stay pixel cost e = absurd (move_not Nothing e refl)
+told Stay pixel cost e = absurd (move_not None e refl)
 told (Toggle j) pixel cost e = record { found = refl; pixel_is = refl; kind_is = refl; cost_is = refl; counts = refl }
 told (Swap code) pixel cost e = record { found = refl; pixel_is = refl; kind_is = refl; cost_is = refl; counts = refl }
 
@@ -74,7 +74,7 @@ module _ (S : Shared) (r : Refined) (x y : ℕ) where
   abbrev pixel : ℕ
   pixel = y * S.tiling.width + x
 
-  stays_of : move_at S r.cpe r.indices x y ≡ Nothing → (pinned_at S.pinned S.tiling.width x y ≡ true) ⊎ (best.mv ≡ Stay)
+  stays_of : move_at S r.cpe r.indices x y ≡ None → (pinned_at S.pinned S.tiling.width x y ≡ true) ⊎ (best.mv ≡ Stay)
   unfolding move_at
   stays_of e = go (pinned_at S.pinned S.tiling.width x y) refl
     where
@@ -83,7 +83,7 @@ module _ (S : Shared) (r : Refined) (x y : ℕ) where
       go false p = inr (stay_of best.mv pixel best.cost (rw p at e))
 
   -- a pixel with a move is not pinned
-  move_of_lem : (s : First) → move_at S r.cpe r.indices x y ≡ s → is_move s ≡ true → (pinned_at S.pinned S.tiling.width x y ≡ false) × (move_of pixel best.cost best.mv ≡ s)
+  move_of_lem : (s : Option FoundMove) → move_at S r.cpe r.indices x y ≡ s → is_some s ≡ true → (pinned_at S.pinned S.tiling.width x y ≡ false) × (move_of pixel best.cost best.mv ≡ s)
   unfolding move_at
   move_of_lem s e m = go (pinned_at S.pinned S.tiling.width x y) refl
     where
@@ -91,7 +91,7 @@ module _ (S : Shared) (r : Refined) (x y : ℕ) where
       go true p = absurd (move_not s m (sym (rw p at e)))
       go false p = (p, rw p at e)
 
-  tells : (s : First) → move_of pixel best.cost best.mv ≡ s → is_move s ≡ true → Told best.mv pixel best.cost (searched_of s)
+  tells : (s : Option FoundMove) → move_of pixel best.cost best.mv ≡ s → is_some s ≡ true → Told best.mv pixel best.cost (searched_of s)
   tells s e m = rw (← e) (told best.mv pixel best.cost (rw e m))
 
   -- and its visit accepts it
@@ -102,11 +102,11 @@ module _ (S : Shared) (r : Refined) (x y : ℕ) where
 
 -- ---- the first move of a pass
 
-module _ (S : Shared) (r : Refined) (z : r.run.accepted ≡ 0) (s : First) (f : Found S r.cpe r.indices s) (m : is_move s ≡ true) where
+module _ (S : Shared) (r : Refined) (z : r.run.accepted ≡ 0) (s : Option FoundMove) (f : Found S r.cpe r.indices s) (m : is_some s ≡ true) where
   abbrev at : Place
   at = place_of S r.cpe r.indices f
 
-  before_tile_lem : AlikeRun S r.cpe r.indices Nothing (before_tile S r at)
+  before_tile_lem : AlikeRun S r.cpe r.indices None (before_tile S r at)
   unfolding before_tile
   before_tile_lem = tiles_alike S r.cpe r.indices f.phase.at f.tile_at.at r (refl, refl, z) f.phase.none f.tile_at.none
 
@@ -140,14 +140,14 @@ module _ (S : Shared) (r : Refined) (z : r.run.accepted ≡ 0) (s : First) (f : 
       let h = move_of_lem S r f.column_at.at f.row.at s (here S r.cpe r.indices f) m in
       record { found = (tells S r f.column_at.at f.row.at s h.1 m).found; first = first_move }
 
-says_none : (S : Shared) (r : Refined) → first_in_pass S r.cpe r.indices ≡ Nothing → SaysNone S r (searched_of Nothing)
+says_none : (S : Shared) (r : Refined) → first_in_pass S r.cpe r.indices ≡ None → SaysNone S r (searched_of None)
 unfolding searched_of
 says_none S r e = record { found = refl; pixel = refl; kind = refl; cost = refl; stays = λ p v. stays_of S r p.x p.y (pass_stays S r.cpe r.indices e p v) }
 
 says : (S : Shared) (r : Refined) → r.run.accepted ≡ 0 → let a = searched_of (first_in_pass S r.cpe r.indices) in SaysNone S r a ⊎ SaysMove S r a
-says S r z = go (is_move (first_in_pass S r.cpe r.indices)) refl
+says S r z = go (is_some (first_in_pass S r.cpe r.indices)) refl
   where
-    go : (b : Bool) → is_move (first_in_pass S r.cpe r.indices) ≡ b → let a = searched_of (first_in_pass S r.cpe r.indices) in SaysNone S r a ⊎ SaysMove S r a
+    go : (b : Bool) → is_some (first_in_pass S r.cpe r.indices) ≡ b → let a = searched_of (first_in_pass S r.cpe r.indices) in SaysNone S r a ⊎ SaysMove S r a
     go true m = inr (says_move S r z _ (pass_found S r.cpe r.indices _ refl m) m)
     go false m = let e = nothing (first_in_pass S r.cpe r.indices) m in inl (rw e (says_none S r e))
 
@@ -169,11 +169,10 @@ run_counts I passes cpp h = ap (λ (w : Walk). w.counts) (pass_of_lem (shared_of
 one_count : (n : ℕ) → (n ≡ 0) ↔ (n ∷ [] ≡ 0 ∷ [])
 one_count n = (λ e. ap (λ (k : ℕ). k ∷ []) e, λ e. ap (λ (l : List ℕ). get_or l 0 0) e)
 
-none_told : (f : First) → ((searched_of f).found ≡ 0) ↔ (f ≡ Nothing)
+none_told : (f : Option FoundMove) → ((searched_of f).found ≡ 0) ↔ (f ≡ None)
 unfolding searched_of
-none_told Nothing = (λ e. refl, λ e. refl)
-none_told (ToggleAt pixel cost) = (λ e. absurd (omega arith), λ e. absurd (move_not (ToggleAt pixel cost) (unfold is_move in refl) e))
-none_told (SwapAt pixel cost) = (λ e. absurd (omega arith), λ e. absurd (move_not (SwapAt pixel cost) (unfold is_move in refl) e))
+none_told None = (λ e. refl, λ e. refl)
+none_told (Some move) = (λ e. absurd (omega arith), λ e. absurd (move_not (Some move) refl e))
 
 none_count : (I : Input) (cpp : List Float) → ((searched_of (first_of I cpp)).found ≡ 0) ↔ (first_count I cpp ≡ 0)
 unfolding first_of
@@ -207,7 +206,7 @@ run_begins I passes cpp h =
 
 module _ (I : Input) (cpe cpp inks : List Float) where
   answer_is : find_status (find_of I cpe cpp inks) ≡ accepted → (find_of I cpe cpp inks).answer ≡ searched_of (first_of I cpp)
-  unfolding search_accepted found_of
+  unfolding search_accepted
   answer_is e = let a = find_answers I cpe cpp inks in ap (λ (F : Finding). F.answer) (a.leaves (sym a.told ∙ e))
 
   call_says : find_status (find_of I cpe cpp inks) ≡ accepted →

@@ -80,6 +80,10 @@ row_room k P W y w ordered top bottom =
 abbrev pub copied : {A : Type 0} → A → ℕ → Rect → Rect → Rect → List A → List A → ℕ → List A
 copied d k F P W from to y = paste d k P (above W y) to (crop d k F W from)
 
+-- `l` is this, whatever a place past a list's end would have
+abbrev pub Copied : {A : Type 0} → ℕ → Rect → Rect → Rect → List A → List A → ℕ → List A → Type 0
+Copied {A} k F P W from to y l = (d : A) → l ≡ copied d k F P W from to y
+
 module _ {A : Type 0} (d : A) (k : ℕ) (F P W : Rect) (from to : List A) (fits-from : Within F W) (fits-to : Within P W) (ordered : W.x0 ≤ W.x1) where
   abbrev rows : ℕ → List A
   rows y = copied d k F P W from to y
@@ -174,15 +178,14 @@ module _ {A : Type 0} (d : A) (k : ℕ) (F P W : Rect) (from to : List A) (fits-
             let same : y ≡ y' = omega (arith, i.top, i.bottom) in
             rw (sym same) (hit x c i.left i.right b)
 
-  -- the same of a turn of a loop: row y of `from` came back in the part of `to` that was lent
+  -- the same of a turn of a loop: row y of `from` was written at b
   pub turn : (y a b n : ℕ) (l last : List A) → W.y0 ≤ y → y < W.y1 → length from ≡ k * area F →
       a ≡ place k F W.x0 y 0 → b ≡ place k P W.x0 y 0 → n ≡ k * width W → l ≡ rows y → last ≡ mid_of a (a + n - a) from →
-      put_mid b (b + n - b) l last ≡ rows (y + 1)
+      put_mid b n l last ≡ rows (y + 1)
   turn y a b n l last top bottom long a-is b-is n-is l-is last_is =
       let size-from : a + n - a ≡ k * width W = omega (arith, n-is) in
-      let size-to : b + n - b ≡ k * width W = omega (arith, n-is) in
       let next : suc y ≡ y + 1 = omega arith in
-      rw (last_is, l-is, size-from, size-to, a-is, b-is) (row_more y top bottom long) ∙ ap rows next
+      rw (last_is, l-is, size-from, n-is, a-is, b-is) (row_more y top bottom long) ∙ ap rows next
 
   -- before the first row, and after the last
   pub rows_none : length to ≡ k * area P → rows W.y0 ≡ to
@@ -201,3 +204,6 @@ module _ {A : Type 0} (d : A) (k : ℕ) (F P W : Rect) (from to : List A) (fits-
 pub held_area : (P W : Rect) → Holds P W → area P ≤ max_pixels
 unfolding area width height
 held_area P W h = image_product (P.y1 - P.y0) (P.x1 - P.x0) (omega (arith, h.high)) (omega (arith, h.wide))
+
+pub values_limit : (k : ℕ) (P W : Rect) → Holds P W → k ≤ 3 → k * area P ≤ 50331648
+values_limit k P W h b = omega (arith, mul-le-mul_right {m = k} {n = 3} (area P) b, held_area P W h)

@@ -2,7 +2,7 @@
 -- Rows of sums that grow by a row of values, correlated with the rows of a kernel, where they stand among the lines of a list.
 use Rattle.std.specs.Prelude.{◌≡◌, ◌≢◌, List, ℕ, suc, ◌+◌, ◌-◌, ◌*◌, ◌≤◌, ◌<◌, length, Float}
 use Rattle.correlate.specs.declared.Lines.{Lines}
-pub use Rattle.taps.specs.Taps.{at, Changed, RowFits}
+pub use Rattle.taps.specs.Taps.{at, Changed}
 unfoldable pub use Rattle.taps.specs.Taps.{tap_term, tap_sum}
 
 -- ---- lines
@@ -34,4 +34,3 @@ pub record SpreadFits (L : Lines) (lines a b kernel size top : ℕ) : Type 0 whe
   pub room : (y : ℕ) → a ≤ y → y < b → suc (line_of L y) * L.width ≤ lines
   pub most : lines ≤ 67108864
   pub taps : (y : ℕ) → a ≤ y → y < b → (y ≤ top) × (suc (top - y) * size ≤ kernel)
-  pub few : kernel ≤ 65536

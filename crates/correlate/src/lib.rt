@@ -4,9 +4,10 @@
 #![tactic(auto)]
 
 ghost use Rattle.std.specs.Prelude.{◌≡◌, suc, ◌+◌, ◌-◌, ◌*◌, ◌<◌, ◌≤◌, length};
-ghost use Rattle.correlate.specs.Correlate.{at, tap_sum, Changed, line_of, Spread, row_taps, RowFits, SpreadFits};
+ghost use Rattle.taps.specs.Rows.{row_sum};
+ghost use Rattle.correlate.specs.Correlate.{Changed, line_of, Spread, row_taps, SpreadFits};
 
-use base::{saturating_sub, smaller};
+use taps::Row;
 
 // Rows of sums that stand among other lines of a list: row y is line first + step·y.
 #[derive(Clone, Copy)]
@@ -16,30 +17,31 @@ pub struct Lines {
     pub step: usize,
 }
 
-// All taps, added to all sums: four by four where every tap falls on a value, one by one at both ends.
-pub fn correlate_row(sums: &mut [f64], values: &[f64], taps: &[f64], lead: usize)
-    requires { RowFits (length sums.old) (length values.now) lead (length taps.now) }
-    ensures { Changed 0 (length sums.old) (λ i. tap_sum (at values.now) (at taps.now) (length values.now) lead i 0 (length taps.now)) sums.old sums.new }
-{
-    let n = sums.len();
-    let lo = smaller(lead, n);
-    let hi = smaller(n, saturating_sub(lead + values.len() + 1, taps.len()));
-    if hi <= lo {
-        taps::by_ones(sums, 0, n, values, taps, lead, 0);
-        return;
+impl Lines {
+    // Where the line of row y begins.
+    fn start(self, y: usize) -> usize
+        requires { (1 ≤ self.width) × (suc (line_of self y) * self.width ≤ 67108864) }
+        ensures { result ≡ line_of self y * self.width }
+    {
+        (self.first + self.step * y) * self.width
     }
-    taps::by_ones(sums, 0, lo, values, taps, lead, 0);
-    let left = taps::by_fours(sums, lo, hi, values, taps, lead);
-    taps::by_ones(sums, lo, hi, values, taps, lead, left);
-    taps::by_ones(sums, hi, n, values, taps, lead, 0);
 }
 
-// Where the line of row y begins.
-fn line_start(l: Lines, y: usize) -> usize
-    requires { (1 ≤ l.width) × (suc (line_of l y) * l.width ≤ 67108864) }
-    ensures { result ≡ line_of l y * l.width }
+// All taps, added to all sums: four by four where every tap falls on a value, one by one at both ends.
+pub fn correlate_row(sums: &mut [f64], row: Row<'_>)
+    ensures { Changed 0 (length sums.old) (λ i. row_sum row.entry i 0 (length row.entry.taps.now)) sums.old sums.new }
 {
-    (l.first + l.step * y) * l.width
+    let n = sums.len();
+    let lo = row.lead.min(n);
+    let hi = n.min((row.lead + row.values.len() + 1).saturating_sub(row.taps.len()));
+    if hi <= lo {
+        row.by_ones(sums, 0, n, 0);
+        return;
+    }
+    row.by_ones(sums, 0, lo, 0);
+    let left = row.by_fours(sums, lo, hi);
+    row.by_ones(sums, lo, hi, left);
+    row.by_ones(sums, hi, n, 0);
 }
 
 // A row of values, added to the rows of sums from a to b - 1: to row y by row top - y of the kernel.
@@ -55,20 +57,13 @@ pub fn spread(
     lead: usize,
 )
     requires spread_fits { SpreadFits l (length lines.old) a b (length kernel.now) size top }
-    requires row_fits { RowFits l.width (length values.now) lead size }
+    requires lead_limit { lead ≤ 65536 }
     ensures { Spread l a b (row_taps values.now kernel.now size top lead) lines.old lines.new }
 {
-    let n = l.width;
-    let mut y = a;
-    while y < b {
-        let at = line_start(l, y);
+    for y in a..b {
+        let at = l.start(y);
         let from = (top - y) * size;
-        correlate_row(
-            &mut lines[at..at + n],
-            values,
-            &kernel[from..from + size],
-            lead,
-        );
-        y += 1;
+        let taps = &kernel[from..from + size];
+        correlate_row(&mut lines[at..at + l.width], Row { values, taps, lead });
     }
 }

@@ -1,11 +1,9 @@
 -- The costs of a toggle and of a swap (document 01: 'Costs are the two formulas of `refine_tile`'), and the values of the kernels in them.
-use Rattle.std.specs.Prelude.{List, ℕ, Float}
+use Rattle.std.specs.Prelude.{List, ℕ, Float, Option, Some, None}
 use Rattle.std.specs.Float.{nan}
 use Rattle.base.specs.F64.{◌+f◌, ◌-f◌, ◌*f◌, f0, f2}
 use Rattle.color.specs.declared.YyCxCz.{YyCxCz}
 use Rattle.color.specs.Values.{less_of}
-use Rattle.neighbour.specs.declared.Adjacent.{Adjacent}
-use Rattle.neighbour.specs.declared.Adjacent.TheVariants.{Pixel, Outside}
 use Rattle.neighbour.specs.Neighbour.{neighbour_of}
 use Rattle.tiling.specs.declared.Tiling.{Tiling}
 use Rattle.cpp.specs.declared.Kernel2D.{Kernel2D}
@@ -18,9 +16,9 @@ unfoldable pub centre_of : List Float → Kernel2D → Float
 centre_of cpp k = kernel_at cpp k k.radius k.radius
 
 -- the kernel's value at the centre's neighbour; a kernel of radius 1 or more has all eight, so that nothing reads the `nan`
-abbrev pub value_of : List Float → Kernel2D → Adjacent → Float
-value_of cpp k (Pixel i j) = kernel_at cpp k i j
-value_of cpp k Outside = nan
+abbrev pub value_of : List Float → Kernel2D → Option (ℕ × ℕ) → Float
+value_of cpp k (Some (i, j)) = kernel_at cpp k i j
+value_of cpp k None = nan
 
 unfoldable pub beside_of : List Float → Kernel2D → ℕ → Float
 beside_of cpp k code = value_of cpp k (neighbour_of code k.radius k.radius (size k) (size k))

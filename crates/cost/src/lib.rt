@@ -19,6 +19,7 @@ fn swap_term(g: f64, a: f64, c: f64, cn: f64) -> f64
 }
 
 // p: the kernels at their centres; a: the change of the pixel; c: `cpe` there.
+#[tactic(auto, unfolding(crate::specs::Cost::toggle_cost))]
 pub fn toggle_cost(p: YyCxCz, a: YyCxCz, c: YyCxCz) -> f64
     ensures { result ≡ toggle_cost p a c }
 {
@@ -28,6 +29,7 @@ pub fn toggle_cost(p: YyCxCz, a: YyCxCz, c: YyCxCz) -> f64
 }
 
 // g: the kernels at their centres less beside them; cn: `cpe` at the neighbour.
+#[tactic(auto, unfolding(crate::specs::Cost::swap_cost))]
 pub fn swap_cost(g: YyCxCz, a: YyCxCz, c: YyCxCz, cn: YyCxCz) -> f64
     ensures { result ≡ swap_cost g a c cn }
 {

@@ -35,6 +35,7 @@ pub fn chroma_kernel(t: Tiling) -> Kernel2D
 }
 
 // The kernel's value in column i and row j.
+#[tactic(auto, using(crate::proofs::Laws::kernel_lt), unfolding(crate::specs::Kernel::kernel_at))]
 pub fn kernel_at(cpp: &[f64], k: Kernel2D, i: usize, j: usize) -> f64
     requires kernel_fits { KernelFits k cpp.now }
     requires i_bound { (i < size k) × (j < size k) }

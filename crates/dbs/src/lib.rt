@@ -24,6 +24,7 @@ use accepted::DbsStats;
 use base::{Index, Status};
 use eye::DbsParams;
 use found::DbsFound;
+use input::Input;
 use perceived::Measured;
 use work::DbsWorked;
 
@@ -104,9 +105,16 @@ pub fn dbs_find_move(
         viewing_distance_cm,
         ppi,
     };
-    findmove::find_move(
-        pixels, width, height, palette, indices, pinned, params, cpe, cpp, inks,
-    )
+    let given = Input {
+        width,
+        height,
+        pixels,
+        palette,
+        indices,
+        pinned,
+        params,
+    };
+    findmove::find_move(given, cpe, cpp, inks)
 }
 
 // Open a job: everything up to the walk.
@@ -134,15 +142,18 @@ pub fn dbs_open(
         viewing_distance_cm,
         ppi,
     };
-    open::open_run(
-        record,
-        pixels,
+    let given = Input {
         width,
         height,
+        pixels,
         palette,
         indices,
         pinned,
         params,
+    };
+    Status::from(open::open_run(
+        record,
+        given,
         max_passes,
         cpe,
         cpp,
@@ -150,7 +161,7 @@ pub fn dbs_open(
         tile_states,
         deltas,
         inks,
-    )
+    ))
 }
 
 // Copy a tile's region out and mark the tile out.
@@ -165,7 +176,7 @@ pub fn dbs_take(
 ) -> Status
     ensures { taken result (decode «record».now) tile_states.new (pixels copy_cpe.new copy_indices.new) ≡ take_run «record».now tile (pixels cpe.now indices.now) tile_states.old (pixels copy_cpe.old copy_indices.old) }
 {
-    take::take_run(
+    Status::from(take::take_run(
         record,
         tile,
         indices,
@@ -173,7 +184,7 @@ pub fn dbs_take(
         tile_states,
         copy_cpe,
         copy_indices,
-    )
+    ))
 }
 
 // Refine a tile on its copy. Touches no job state.
@@ -188,7 +199,7 @@ pub fn dbs_work(
 ) -> DbsWorked
     ensures { worked (status result.number result.place) (state copy_cpe.new copy_indices.new (progress_of result.accepted result.delta)) ≡ work_run «record».now tile pinned.now cpp.now (pixels copy_cpe.old copy_indices.old) inks.now }
 {
-    work::work_run(record, tile, pinned, cpp, copy_cpe, copy_indices, inks)
+    DbsWorked::from(work::work_run(record, tile, pinned, cpp, copy_cpe, copy_indices, inks))
 }
 
 // Write a copy back over its region, with the count and delta that dbs_work answered.
@@ -206,7 +217,7 @@ pub fn dbs_put_back(
 ) -> Status
     ensures { put_back result «record».new (pixels cpe.new indices.new) tile_states.new deltas.new ≡ put_back_run «record».old tile (pixels cpe.old indices.old) tile_states.old deltas.old (state copy_cpe.now copy_indices.now (progress_of accepted delta)) }
 {
-    putback::put_back_run(
+    Status::from(putback::put_back_run(
         record,
         tile,
         indices,
@@ -217,14 +228,14 @@ pub fn dbs_put_back(
         copy_indices,
         accepted,
         delta,
-    )
+    ))
 }
 
 // Make an out tile waiting again; image and cpe stay.
 pub fn dbs_recall(record: &[u64], tile: u64, tile_states: &mut [u8]) -> Status
     ensures { recalled result tile_states.new ≡ recall_run «record».now tile tile_states.old }
 {
-    recall::recall_run(record, tile, tile_states)
+    Status::from(recall::recall_run(record, tile, tile_states))
 }
 
 // Close the phase: join its deltas to the error and go on to the next phase.
@@ -236,5 +247,5 @@ pub fn dbs_close(
 ) -> Status
     ensures { closed result «record».new accepted_per_pass.new tile_states.new ≡ close_run «record».old accepted_per_pass.old tile_states.old deltas.now }
 {
-    close::close_run(record, accepted_per_pass, tile_states, deltas)
+    Status::from(close::close_run(record, accepted_per_pass, tile_states, deltas))
 }

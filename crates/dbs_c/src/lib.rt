@@ -1,5 +1,6 @@
 // The static library: the C interface (include/dbs.h). Numbers pass as themselves, a slice as a pointer and then its number of
 // elements, answers as structs by value. Each function has the contract of the function of the crate dbs that it calls.
+// Kept: the calls stand in both crates, since a static library hands out functions of its own only, and Rattle crates call `dbs`.
 #![tactic(auto)]
 
 ghost use Rattle.std.specs.Prelude.{[], ◌≡◌};

@@ -2,14 +2,12 @@
 use Prim.Native.Nat.{ℕ, zero, suc, ◌+◌, ◌*◌, ◌/◌, ◌%◌, ◌<◌, ◌≤◌}
 use native.Mathlib.Omega.{arith}
 use native.Mathlib.Nat.{mod-lt, div-lt_iff_lt-mul}
-use mathlib.Core.Path.{◌≡◌, refl, ap, ◌∙◌}
-use mathlib.Core.Logic.{◌≢◌}
+use mathlib.Core.Path.{◌≡◌, refl}
 use lib.Ieee.{Float}
 use Rattle.base.proofs.Bounds.{index_lt}
 use Rattle.color.specs.declared.YyCxCz.{YyCxCz}
 use Rattle.color.specs.Inks.{channel}
-use Rattle.error.specs.Error.{Scene, SceneFits, PixelFits, error_at}
-use Rattle.error.specs.Rows.{error_in_row}
+use Rattle.error.specs.Error.{Scene, SceneFits, PixelFits}
 
 -- what is done to each of the three channels is done to channel c
 pub channelwise : (f : Float → Float → Float → Float) (s a b : YyCxCz) (c : ℕ) →
@@ -19,12 +17,12 @@ channelwise f s a b zero = refl
 channelwise f s a b (suc zero) = refl
 channelwise f s a b (suc (suc c)) = refl
 
--- a channel after the second is the last
-pub channel_last : (c : ℕ) (v : YyCxCz) → c ≢ 0 → c ≢ 1 → v.cz ≡ channel c v
+-- a channel of three values that are the same
+pub channel_same : (v : YyCxCz) (x : Float) → v.yy ≡ x → v.cx ≡ x → v.cz ≡ x → (c : ℕ) → channel c v ≡ x
 unfolding channel
-channel_last zero v p q = absurd (p refl)
-channel_last (suc zero) v p q = absurd (q refl)
-channel_last (suc (suc c)) v p q = refl
+channel_same v x p q r zero = p
+channel_same v x p q r (suc zero) = q
+channel_same v x p q r (suc (suc c)) = r
 
 -- a pixel of the image
 pub pixel_fits : (w h : ℕ) (G : Scene) (x y : ℕ) → SceneFits w h G → x < w → y < h → PixelFits w G x y
@@ -45,8 +43,3 @@ column_lt w i p = mod-lt i p
 
 pub row_lt : (w h i : ℕ) → 1 ≤ w → i < h * w → i / w < h
 row_lt w h i p q = (div-lt_iff_lt-mul p).1 q
-
--- channel c of the error i columns after pixel (x, y)
-pub in_row : (w : ℕ) (G : Scene) (c x y i : ℕ) (e : YyCxCz) (v : Float) → e ≡ error_at w G (x + i) y → v ≡ channel c e → v ≡ error_in_row w G c x y i
-unfolding error_in_row
-in_row w G c x y i e v p q = q ∙ ap (channel c) p

@@ -3,31 +3,32 @@
 // computed row by row, once for each channel.
 #![tactic(auto)]
 
-ghost use Rattle.std.specs.Prelude.{◌≡◌, ℕ, ◌*◌, length};
+ghost use Rattle.std.specs.Prelude.{◌≡◌, ℕ, ◌+◌, ◌*◌, ◌<◌, ◌≤◌, length};
 ghost use Rattle.base.specs.Loop.{table};
-ghost use Rattle.base.specs.F64.{◌+f◌, ◌*f◌, f0};
-ghost use Rattle.light.specs.Lut.{srgb_to_linear};
-ghost use Rattle.color.specs.Inks.{channel};
-ghost use Rattle.error.specs.Error.{scene, error_at, initial_error, SceneFits, PixelFits};
-ghost use Rattle.error.specs.Rows.{RowHolds, error_in_row};
+ghost use Rattle.base.specs.F64.{◌+f◌, ◌*f◌};
+ghost use Rattle.color.specs.Inks.{channel, number};
+ghost use Rattle.error.specs.Error.{scene, error_at, initial_error, SceneFits};
+ghost use Rattle.error.specs.Rows.{error_in_row};
 
 use base::Index;
-use color::YyCxCz;
+use color::{Channel, YyCxCz};
+use pins::Pins;
 use tiling::Tiling;
 
-// Where three sums start.
-pub fn zero() -> YyCxCz
-    ensures { (c : ℕ) → channel c result ≡ f0 }
-{
-    YyCxCz {
-        yy: 0.0,
-        cx: 0.0,
-        cz: 0.0,
-    }
+// What errors are made of, each list row by row: the target, the halftone, the pin mask and the ink values.
+#[derive(Clone, Copy)]
+pub struct Scene<'a> {
+    pub width: usize,
+    pub height: usize,
+    pub pixels: &'a [u8],
+    pub indices: &'a [Index],
+    pub pinned: &'a [u8],
+    pub inks: &'a [f64],
+    pub ghost fits: { SceneFits width height (scene pixels.now indices.now pinned.now inks.now) },
 }
 
 // Three sums grow by a times b, channel by channel.
-pub fn add_products(s: YyCxCz, a: YyCxCz, b: YyCxCz) -> YyCxCz
+fn add_products(s: YyCxCz, a: YyCxCz, b: YyCxCz) -> YyCxCz
     ensures { (c : ℕ) → channel c result ≡ channel c s +f channel c a *f channel c b }
 {
     YyCxCz {
@@ -37,100 +38,50 @@ pub fn add_products(s: YyCxCz, a: YyCxCz, b: YyCxCz) -> YyCxCz
     }
 }
 
-// The error of pixel (x, y): its ink less its target, which is its colour or, where it is pinned, its own ink.
-pub fn error_at(
-    lut: &[u64; 256],
-    pixels: &[u8],
-    indices: &[Index],
-    pinned: &[u8],
-    inks: &[f64],
-    width: usize,
-    x: usize,
-    y: usize,
-) -> YyCxCz
-    requires lut_value { lut.now ≡ srgb_to_linear }
-    requires pixel_fits { PixelFits width (scene pixels.now indices.now pinned.now inks.now) x y }
-    ensures { result ≡ error_at width (scene pixels.now indices.now pinned.now inks.now) x y }
-{
-    let i = y * width + x;
-    let k = indices[i] as usize;
-    let ink = color::values_at(inks, 3 * k);
-    let j = 3 * i;
-    let colour = color::srgb_to_yycxcz(lut, pixels[j], pixels[j + 1], pixels[j + 2]);
-    if pins::is_pinned(pinned, width, x, y) {
-        return color::less(ink, ink);
-    }
-    color::less(ink, colour)
-}
+impl<'a> Scene<'a> {
+    ghost use Rattle.error.specs.Scenes.{image_of};
 
-// Channel c of three values.
-fn channel_of(v: YyCxCz, c: usize) -> f64
-    ensures { result ≡ channel c v }
-{
-    if c == 0 {
-        return v.yy;
+    // The error of pixel (x, y): its ink less its target, which is its colour or, where it is pinned, its own ink.
+    pub fn error_at(self, x: usize, y: usize) -> YyCxCz
+        requires { (x < self.width) × (y < self.height) }
+        ensures { result ≡ error_at self.entry.width (image_of self.entry) x y }
+    {
+        let i = y * self.width + x;
+        let k = self.indices[i] as usize;
+        let ink = color::values_at(self.inks, 3 * k);
+        let j = 3 * i;
+        let colour = color::srgb_to_yycxcz(self.pixels[j], self.pixels[j + 1], self.pixels[j + 2]);
+        let pins = Pins {
+            pinned: self.pinned,
+            width: self.width,
+        };
+        if pins.is_pinned(x, y) {
+            return ink - ink;
+        }
+        ink - colour
     }
-    if c == 1 {
-        return v.cx;
-    }
-    v.cz
-}
 
-// Channel c of the errors in row y, from column x on.
-pub fn channel_errors(
-    lut: &[u64; 256],
-    pixels: &[u8],
-    indices: &[Index],
-    pinned: &[u8],
-    inks: &[f64],
-    width: usize,
-    c: usize,
-    x: usize,
-    y: usize,
-    line: &mut [f64],
-)
-    requires lut_value { lut.now ≡ srgb_to_linear }
-    requires row_holds { RowHolds width (scene pixels.now indices.now pinned.now inks.now) x y (length line.old) }
-    ensures { line.new ≡ table (length line.old) (error_in_row width (scene pixels.now indices.now pinned.now inks.now) c x y) }
-{
-    for i in 0..line.len() {
-        let e = error_at(lut, pixels, indices, pinned, inks, width, x + i, y);
-        line[i] = channel_of(e, c);
+    // A channel of the errors in row y, from column x on.
+    pub fn channel_errors(self, c: Channel, x: usize, y: usize, line: &mut [f64])
+        requires { (x + length line.old ≤ self.width) × (y < self.height) }
+        ensures { line.new ≡ table (length line.old) (error_in_row self.entry.width (image_of self.entry) (number c) x y) }
+    {
+        for (i, value) in line.iter_mut().enumerate() {
+            *value = self.error_at(x + i, y).channel(c);
+        }
     }
-}
 
-// The error of the starting halftone, given `cpe`.
-pub fn initial_error(
-    lut: &[u64; 256],
-    pixels: &[u8],
-    indices: &[Index],
-    pinned: &[u8],
-    inks: &[f64],
-    cpe: &[f64],
-    t: Tiling,
-) -> f64
-    requires lut_value { lut.now ≡ srgb_to_linear }
-    requires scene_fits { SceneFits t.width t.height (scene pixels.now indices.now pinned.now inks.now) }
-    requires cpe_len { length cpe.now ≡ 3 * (t.height * t.width) }
-    ensures { result ≡ initial_error t (scene pixels.now indices.now pinned.now inks.now) cpe.now }
-{
-    let width = t.width;
-    let n = t.height * width;
-    let mut s = zero();
-    let mut i = 0;
-    while i < n {
-        let e = error_at(
-            lut,
-            pixels,
-            indices,
-            pinned,
-            inks,
-            width,
-            i % width,
-            i / width,
-        );
-        s = add_products(s, e, color::values_at(cpe, 3 * i));
-        i += 1;
+    // The error of the starting halftone, given `cpe`.
+    pub fn initial_error(self, cpe: &[f64], t: Tiling) -> f64
+        requires size { (self.width ≡ t.width) × (self.height ≡ t.height) }
+        requires cpe_len { length cpe.now ≡ 3 * (t.height * t.width) }
+        ensures { result ≡ initial_error t (image_of self.entry) cpe.now }
+    {
+        let mut s = YyCxCz::default();
+        for i in 0..self.height * self.width {
+            let e = self.error_at(i % self.width, i / self.width);
+            s = add_products(s, e, color::values_at(cpe, 3 * i));
+        }
+        0.0 + s.yy + s.cx + s.cz
     }
-    0.0 + s.yy + s.cx + s.cz
 }

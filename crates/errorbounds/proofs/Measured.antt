@@ -13,8 +13,7 @@ use Rattle.bounds.proofs.Sums.{rise, up_to_grown, from_to-grown}
 use Rattle.inkbounds.specs.Inks.{ink_exponent}
 use Rattle.inkbounds.proofs.Inks.{channel_within}
 use Rattle.error.specs.Error.{Scene, scene}
-use Rattle.measure.specs.declared.Frame.{Frame}
-use Rattle.measure.specs.Measure.{frame, FrameFits, blur_term, blur_row, blurred_at, square_term, row_error, blur_error, perceived_of}
+use Rattle.measure.specs.Measure.{Frame, frame, FrameFits, blur_term, blur_row, blurred_at, square_term, row_error, blur_error, perceived_of}
 use Rattle.errorbounds.proofs.Errors.{error_within}
 
 reach : (o r n : ℕ) → r ≤ 16 → min n (o + 1) - (o - 2 * r) ≤ 33

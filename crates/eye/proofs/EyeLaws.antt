@@ -1,20 +1,17 @@
 -- What an accepted eye gives: the luminance blur is the narrower one, because its constant is the smaller and no NaN arises, so the
 -- one test of the chrominance bounds both radii, and the one of the luminance both widths from below. Assumes nothing.
-use Rattle.std.proofs.Common.{◌≡◌, ℕ, ◌+◌, ◌*◌, ◌≤◌, Bool, true, false, cond, T, sym, refl, ap, ◌∙◌, true≢false, arith, lt→ltb, ltb-true}
+use Rattle.std.proofs.Common.{◌≡◌, ℕ, ◌+◌, ◌*◌, ◌≤◌, true, false, T, sym, true≢false, arith, lt→ltb, ltb-true}
 use borrow.Author.Tests.{not-false}
 use lib.Ieee.{Float, nan, inf, fin, up, down, lt, le, mul, div, of_bits}
 use lib.Ieee.Positive.{positive, first_pos}
 use Rattle.base.specs.Limits.{cpp_chroma}
 use Rattle.base.specs.F64.{◌*f◌, ◌/f◌, f2}
-use Rattle.base.specs.declared.Status.{Status}
-use Rattle.base.specs.Refusal.{judge, accepted, is_accepted, Passes}
+use Rattle.base.specs.Refusal.{judge, accepted, Passes}
 use Rattle.base.proofs.Bounds.{product_le}
 use Rattle.base.proofs.RefusalLaws.{Numbered, passes_of}
-use Rattle.base.proofs.JudgeLaws.{judge-zero}
-use Rattle.base.proofs.AnswerLaws.{is_accepted_lem}
 use Rattle.eye.specs.declared.DbsParams.{DbsParams}
 use Rattle.eye.specs.Constants.{alpha_lum, alpha_chroma, sigma_min, cm_per_inch, pi, f180}
-use Rattle.eye.specs.Eye.{to_degrees, sigma_px, truncation, blur_radius, kernel_radius, KernelRadius, Narrow, is_finite_positive, eye_tests, eye, with_radii, eye_of}
+use Rattle.eye.specs.Eye.{to_degrees, sigma_px, truncation, blur_radius, kernel_radius, KernelRadius, Narrow, is_finite_positive, eye_tests}
 use Rattle.eye.proofs.NonNegative.{nonneg, Ordered, div_nonneg, mul_nonneg, div_mono, both_narrow, both_wide}
 use Rattle.eye.proofs.CeilLaws.{ceil_bound}
 
@@ -75,24 +72,3 @@ radii_fit p e =
 -- a kernel of such a radius has at most 65² values
 pub kernel_fits : (R : ℕ) → KernelRadius R → (2 * R + 1) * (2 * R + 1) ≤ cpp_chroma
 kernel_fits R h = let s : 2 * R + 1 ≤ 65 = omega arith in product_le (2 * R + 1) (2 * R + 1) 65 65 s s
-
--- ---- what a caller of `validate` knows by its answer
-
-pub radii_status : (s : Status) (p : DbsParams) → (with_radii s p).status ≡ s
-radii_status s p = go (is_accepted s)
-  where
-    go : (b : Bool) → (cond b (eye s (kernel_radius alpha_lum p) (kernel_radius alpha_chroma p)) (eye s 0 0)).status ≡ s
-    go true = refl
-    go false = refl
-
-pub eye_status : (p : DbsParams) → (eye_of p).status ≡ judge (eye_tests p)
-unfolding eye_of
-eye_status p = radii_status (judge (eye_tests p)) p
-
-pub eye_accepted : (p : DbsParams) → (eye_of p).status.number ≡ 0 → judge (eye_tests p) ≡ accepted
-unfolding eye_tests Numbered
-eye_accepted p e = judge-zero (eye_tests p) (omega arith) (ap (λ (s : Status). s.number) (sym (eye_status p)) ∙ e)
-
-pub eye_radii : (p : DbsParams) → judge (eye_tests p) ≡ accepted → eye_of p ≡ eye accepted (kernel_radius alpha_lum p) (kernel_radius alpha_chroma p)
-unfolding eye_of
-eye_radii p e = rw (e, is_accepted_lem)

@@ -1,11 +1,10 @@
 -- The eye model and the judgement of a viewing geometry. Width σ of document 01 is `sigma_px`, reach is `blur_radius`.
-use Rattle.std.specs.Prelude.{◌≡◌, ℕ, ◌*◌, ◌%◌, ◌≤◌, max, Bool, false, cond, not, T, List, [], ◌∷◌, Float}
+use Rattle.std.specs.Prelude.{◌≡◌, ℕ, ◌*◌, ◌%◌, ◌≤◌, max, Bool, false, not, T, List, [], ◌∷◌, Float}
 use Rattle.std.specs.Float.{nan, inf, fin}
 use Rattle.std.specs.Float.Ieee.{lt, le}
 use Rattle.base.specs.Limits.{max_radius}
 use Rattle.base.specs.F64.{◌*f◌, ◌/f◌, f0, f2}
-use Rattle.base.specs.Refusal.{Test, test, judge, status, is_accepted}
-use Rattle.base.specs.declared.Status.{Status}
+use Rattle.base.specs.Refusal.{Test, test}
 use Rattle.eye.specs.declared.DbsParams.{DbsParams}
 use Rattle.eye.specs.declared.Eye.{Eye}
 use Rattle.eye.specs.Constants.{alpha_lum, alpha_chroma, truncation_sigmas, truncation_max, sigma_min, cm_per_inch, pi, f180}
@@ -55,12 +54,6 @@ eye_tests p =
     ∷ test (lt truncation_max (truncation (sigma_px alpha_chroma p))) 9 1
     ∷ []
 
-abbrev pub eye : Status → ℕ → ℕ → Eye
-eye s lum chroma = record { status = s; lum_radius = lum; chroma_radius = chroma }
-
--- a judgement with both kernel radii, which are zeros where it is a refusal
-abbrev pub with_radii : Status → DbsParams → Eye
-with_radii s p = cond (is_accepted s) (eye s (kernel_radius alpha_lum p) (kernel_radius alpha_chroma p)) (eye s 0 0)
-
+-- both kernel radii
 unfoldable pub eye_of : DbsParams → Eye
-eye_of p = with_radii (judge (eye_tests p)) p
+eye_of p = record { lum_radius = kernel_radius alpha_lum p; chroma_radius = kernel_radius alpha_chroma p }

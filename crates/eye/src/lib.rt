@@ -4,10 +4,12 @@
 #![tactic(auto)]
 
 ghost use Rattle.std.specs.Prelude.{◌≡◌, ◌≤◌};
-ghost use Rattle.base.specs.Refusal.{judge_from};
-ghost use Rattle.eye.specs.Eye.{to_degrees, sigma_px, is_finite_positive, Narrow, blur_radius, eye_tests, with_radii, eye_of};
+ghost use Rattle.base.specs.Refusal.{judge};
+ghost use Rattle.base.specs.Answer.{status_of, Tested};
+ghost use Rattle.eye.specs.Eye.{sigma_px, is_finite_positive, Narrow, blur_radius, eye_tests, eye_of};
 
-use base::Status;
+use base::{Refusal, refuse_if};
+use std::f64::consts::PI;
 
 // Kolpatzik & Bouman (1992) exponential CSF decay constants, W(f) ∝ exp(-α·f), f in cycles/degree.
 // Luminance: Näsänen's α(L) = 1 / (0.525·ln L + 3.91) at L = 11 cd/m² ≈ 0.193.
@@ -26,9 +28,6 @@ const TRUNCATION_MAX: f64 = 16.0;
 
 const CM_PER_INCH: f64 = 2.54;
 
-// std::f64::consts::PI
-const PI: f64 = 3.14159265358979323846264338327950288;
-
 // Document 01's eye record: the viewing geometry.
 #[derive(Clone, Copy)]
 pub struct DbsParams {
@@ -38,26 +37,18 @@ pub struct DbsParams {
     pub ppi: f64,
 }
 
-// What `validate` finds: 0, 0 with the radii of both autocorrelation kernels, or a refusal with zeros.
-#[derive(Clone, Copy)]
+// What `validate` finds: the radii of both autocorrelation kernels.
+#[derive(Clone, Copy, PartialEq, Eq)]
 pub struct Eye {
-    pub status: Status,
     pub lum_radius: usize,
     pub chroma_radius: usize,
-}
-
-// A product with the f64 quotient 180 / π.
-fn to_degrees(radians: f64) -> f64
-    ensures { result ≡ to_degrees radians }
-{
-    radians * (180.0 / PI)
 }
 
 // Eye-model blur width in pixels for a CSF decay constant at the given viewing geometry.
 pub fn eye_sigma_px(alpha: f64, params: DbsParams) -> f64
     ensures { result ≡ sigma_px alpha params }
 {
-    let pixel_deg = to_degrees(CM_PER_INCH / params.ppi / params.viewing_distance_cm);
+    let pixel_deg = (CM_PER_INCH / params.ppi / params.viewing_distance_cm).to_degrees();
     alpha / (2.0 * PI) / pixel_deg
 }
 
@@ -79,48 +70,37 @@ pub fn blur_radius(sigma: f64) -> usize
 fn is_finite_positive(x: f64) -> bool
     ensures { result ≡ is_finite_positive x }
 {
-    if 0.0 < x {
-        return x < 1.0 / 0.0;
-    }
-    false
+    x.is_finite() && 0.0 < x
 }
 
 // Refusals 7, 8 and 9 in order.
-fn check(s: Status, p: DbsParams) -> Status
-    ensures { result ≡ judge_from s (eye_tests p) }
+#[tactic(auto, unfolding(crate::specs::Eye::eye_tests, base::specs::Refusal::judge))]
+fn check(p: DbsParams) -> Result<(), Refusal>
+    ensures { status_of result ≡ judge (eye_tests p) }
 {
     let lum = eye_sigma_px(ALPHA_LUM, p);
     let chroma = eye_sigma_px(ALPHA_CHROMA, p);
-    let s1 = base::next(s, !is_finite_positive(p.ppi), 7, 0);
-    let s2 = base::next(s1, !is_finite_positive(p.viewing_distance_cm), 8, 0);
-    let s3 = base::next(s2, lum < SIGMA_MIN, 9, 0);
-    base::next(s3, BLUR_TRUNCATION_SIGMAS * chroma > TRUNCATION_MAX, 9, 1)
-}
-
-// The eye after the tests before it: both kernel radii where none of all applies.
-pub fn check_eye(s: Status, p: DbsParams) -> Eye
-    ensures { result ≡ with_radii (judge_from s (eye_tests p)) p }
-{
-    let status = check(s, p);
-    if !base::is_accepted(status) {
-        return Eye {
-            status,
-            lum_radius: 0,
-            chroma_radius: 0,
-        };
-    }
-    Eye {
-        status,
-        lum_radius: 2 * blur_radius(eye_sigma_px(ALPHA_LUM, p)),
-        chroma_radius: 2 * blur_radius(eye_sigma_px(ALPHA_CHROMA, p)),
-    }
+    refuse_if(!is_finite_positive(p.ppi), Refusal::Ppi)?;
+    refuse_if(
+        !is_finite_positive(p.viewing_distance_cm),
+        Refusal::Distance,
+    )?;
+    refuse_if(lum < SIGMA_MIN, Refusal::LuminanceTooNarrow)?;
+    refuse_if(
+        BLUR_TRUNCATION_SIGMAS * chroma > TRUNCATION_MAX,
+        Refusal::ChrominanceTooWide,
+    )
 }
 
 impl DbsParams {
     // Refusals 7, 8 and 9 in order, and both kernel radii where none applies.
-    pub fn validate(self) -> Eye
-        ensures { result ≡ eye_of self }
+    pub fn validate(self) -> Result<Eye, Refusal>
+        ensures { Tested result (eye_tests self) (eye_of self) }
     {
-        check_eye(base::ok(), self)
+        check(self)?;
+        Ok(Eye {
+            lum_radius: 2 * blur_radius(eye_sigma_px(ALPHA_LUM, self)),
+            chroma_radius: 2 * blur_radius(eye_sigma_px(ALPHA_CHROMA, self)),
+        })
     }
 }

@@ -3,203 +3,122 @@
 // checksum of all kernel values, or the number and the place of the refusal.
 #![tactic(auto)]
 
-ghost use Rattle.std.specs.Prelude.{◌≡◌, length};
-ghost use Rattle.base.specs.Limits.{cpp_length};
+ghost use Rattle.std.specs.Prelude.{◌≡◌};
 ghost use Rattle.base.specs.Refusal.{judge, accepted};
 ghost use Rattle.eye.specs.Eye.{eye_tests, KernelRadius};
 
-use base::CPP_CHROMA;
+use base::{CPP_CHROMA, CPP_LEN, Status};
+use checksum::Checksum;
 use eye::DbsParams;
 use std::io::{self, Print};
 
-const COUNT: usize = 63;
-
-// The bits of ppi and of viewing_distance_cm of each eye, in turn.
-const EYES: [u64; 126] = [
-    0x405fc00000000000,
-    0x4044000000000000,
-    0x4037b06a1d2e6cc3,
-    0x4024000000000000,
-    0x4037b06a1d2e6cc4,
-    0x4024000000000000,
-    0x4037b06a1d2e6cc5,
-    0x4024000000000000,
-    0x4095d2c99f77240c,
-    0x4024000000000000,
-    0x4095d2c99f77240d,
-    0x4024000000000000,
-    0x4095d2c99f77240e,
-    0x4024000000000000,
-    0x405f95e2d1933bb0,
-    0x402e000000000000,
-    0x405f95e2d1933bb1,
-    0x402e000000000000,
-    0x4067b06a1d2e6cc4,
-    0x4034000000000000,
-    0x4067b06a1d2e6cc5,
-    0x4034000000000000,
-    0x406c6d4c23048286,
-    0x4039000000000000,
-    0x406c6d4c23048287,
-    0x4039000000000000,
-    0x406f95e2d1933bb0,
-    0x403e000000000000,
-    0x406f95e2d1933bb1,
-    0x403e000000000000,
-    0x4070ebb9828edff9,
-    0x4041800000000000,
-    0x4070ebb9828edffa,
-    0x4041800000000000,
-    0x4071c44f95e2d193,
-    0x4044000000000000,
-    0x4071c44f95e2d194,
-    0x4044000000000000,
-    0x4072063a7a608a68,
-    0x4047000000000000,
-    0x4072063a7a608a69,
-    0x4047000000000000,
-    0x404d190cd49edabc,
-    0x402e000000000000,
-    0x404d190cd49edabd,
-    0x402e000000000000,
-    0x4055d2c99f77240d,
-    0x4034000000000000,
-    0x4055d2c99f77240e,
-    0x4034000000000000,
-    0x405a302525c22b42,
-    0x4039000000000000,
-    0x405a302525c22b43,
-    0x4039000000000000,
-    0x405d190cd49edabc,
-    0x403e000000000000,
-    0x405d190cd49edabd,
-    0x403e000000000000,
-    0x405f2d2008610eef,
-    0x4041800000000000,
-    0x405f2d2008610ef0,
-    0x4041800000000000,
-    0x405f2d2008610eed,
-    0x4045000000000000,
-    0x405f2d2008610eee,
-    0x4045000000000000,
-    0x40609ad10f97de36,
-    0x4047000000000000,
-    0x40609ad10f97de37,
-    0x4047000000000000,
-    0x4061756e192c1cd7,
-    0x4049000000000000,
-    0x4061756e192c1cd8,
-    0x4049000000000000,
-    0x4061db020e1ba922,
-    0x404b800000000000,
-    0x4061db020e1ba923,
-    0x404b800000000000,
-    0x40622fa804e348b5,
-    0x404e000000000000,
-    0x40622fa804e348b6,
-    0x404e000000000000,
-    0x40627748247880f6,
-    0x4050400000000000,
-    0x40627748247880f7,
-    0x4050400000000000,
-    0x4062b4acd1d3d5c1,
-    0x4051800000000000,
-    0x4062b4acd1d3d5c2,
-    0x4051800000000000,
-    0x4062e9e1f09a7493,
-    0x4052c00000000000,
-    0x4062e9e1f09a7494,
-    0x4052c00000000000,
-    0x4062a1357ba42504,
-    0x4054800000000000,
-    0x4062a1357ba42505,
-    0x4054800000000000,
-    0x40630832cf88a564,
-    0x4055800000000000,
-    0x40630832cf88a565,
-    0x4055800000000000,
-    0x40380032a0000000,
-    0x4024000000000000,
-    0x403e016760000000,
-    0x4024000000000000,
-    0x404403c178000000,
-    0x4024000000000000,
-    0x40490893d8000000,
-    0x4024000000000000,
-    0x4054402a58000000,
-    0x4024000000000000,
-    0x4056ff36cc000000,
-    0x4024000000000000,
-    0x405a169404000000,
-    0x4024000000000000,
-    0x4038000070000000,
-    0x4024000000000000,
-    0x405fc00030000000,
-    0x4024000000000000,
-    0x407fc000b0000000,
-    0x4024000000000000,
-    0x0000000000000001,
-    0x0000000000000001,
-    0x7fefffffffffffff,
-    0x7fefffffffffffff,
+// The bits of ppi and of viewing_distance_cm of each eye.
+const EYES: [(u64, u64); 63] = [
+    (0x405fc00000000000, 0x4044000000000000),
+    (0x4037b06a1d2e6cc3, 0x4024000000000000),
+    (0x4037b06a1d2e6cc4, 0x4024000000000000),
+    (0x4037b06a1d2e6cc5, 0x4024000000000000),
+    (0x4095d2c99f77240c, 0x4024000000000000),
+    (0x4095d2c99f77240d, 0x4024000000000000),
+    (0x4095d2c99f77240e, 0x4024000000000000),
+    (0x405f95e2d1933bb0, 0x402e000000000000),
+    (0x405f95e2d1933bb1, 0x402e000000000000),
+    (0x4067b06a1d2e6cc4, 0x4034000000000000),
+    (0x4067b06a1d2e6cc5, 0x4034000000000000),
+    (0x406c6d4c23048286, 0x4039000000000000),
+    (0x406c6d4c23048287, 0x4039000000000000),
+    (0x406f95e2d1933bb0, 0x403e000000000000),
+    (0x406f95e2d1933bb1, 0x403e000000000000),
+    (0x4070ebb9828edff9, 0x4041800000000000),
+    (0x4070ebb9828edffa, 0x4041800000000000),
+    (0x4071c44f95e2d193, 0x4044000000000000),
+    (0x4071c44f95e2d194, 0x4044000000000000),
+    (0x4072063a7a608a68, 0x4047000000000000),
+    (0x4072063a7a608a69, 0x4047000000000000),
+    (0x404d190cd49edabc, 0x402e000000000000),
+    (0x404d190cd49edabd, 0x402e000000000000),
+    (0x4055d2c99f77240d, 0x4034000000000000),
+    (0x4055d2c99f77240e, 0x4034000000000000),
+    (0x405a302525c22b42, 0x4039000000000000),
+    (0x405a302525c22b43, 0x4039000000000000),
+    (0x405d190cd49edabc, 0x403e000000000000),
+    (0x405d190cd49edabd, 0x403e000000000000),
+    (0x405f2d2008610eef, 0x4041800000000000),
+    (0x405f2d2008610ef0, 0x4041800000000000),
+    (0x405f2d2008610eed, 0x4045000000000000),
+    (0x405f2d2008610eee, 0x4045000000000000),
+    (0x40609ad10f97de36, 0x4047000000000000),
+    (0x40609ad10f97de37, 0x4047000000000000),
+    (0x4061756e192c1cd7, 0x4049000000000000),
+    (0x4061756e192c1cd8, 0x4049000000000000),
+    (0x4061db020e1ba922, 0x404b800000000000),
+    (0x4061db020e1ba923, 0x404b800000000000),
+    (0x40622fa804e348b5, 0x404e000000000000),
+    (0x40622fa804e348b6, 0x404e000000000000),
+    (0x40627748247880f6, 0x4050400000000000),
+    (0x40627748247880f7, 0x4050400000000000),
+    (0x4062b4acd1d3d5c1, 0x4051800000000000),
+    (0x4062b4acd1d3d5c2, 0x4051800000000000),
+    (0x4062e9e1f09a7493, 0x4052c00000000000),
+    (0x4062e9e1f09a7494, 0x4052c00000000000),
+    (0x4062a1357ba42504, 0x4054800000000000),
+    (0x4062a1357ba42505, 0x4054800000000000),
+    (0x40630832cf88a564, 0x4055800000000000),
+    (0x40630832cf88a565, 0x4055800000000000),
+    (0x40380032a0000000, 0x4024000000000000),
+    (0x403e016760000000, 0x4024000000000000),
+    (0x404403c178000000, 0x4024000000000000),
+    (0x40490893d8000000, 0x4024000000000000),
+    (0x4054402a58000000, 0x4024000000000000),
+    (0x4056ff36cc000000, 0x4024000000000000),
+    (0x405a169404000000, 0x4024000000000000),
+    (0x4038000070000000, 0x4024000000000000),
+    (0x405fc00030000000, 0x4024000000000000),
+    (0x407fc000b0000000, 0x4024000000000000),
+    (0x0000000000000001, 0x0000000000000001),
+    (0x7fefffffffffffff, 0x7fefffffffffffff),
 ];
 
 // Computes both kernels of an accepted eye into cpp and gives their checksum.
-fn kernels(params: DbsParams, lum_radius: usize, chroma_radius: usize, cpp: &mut [f64]) -> u64
+fn kernels(
+    params: DbsParams,
+    lum_radius: usize,
+    chroma_radius: usize,
+    cpp: &mut [f64; CPP_LEN],
+) -> Checksum
     requires params_value { judge (eye_tests params) ≡ accepted }
     requires kernel_radius { KernelRadius lum_radius × KernelRadius chroma_radius }
-    requires cpp_len { length cpp.old ≡ cpp_length }
 {
     kernel::eye_kernels(params, cpp);
     let lum_size = 2 * lum_radius + 1;
     let lum_end = lum_size * lum_size;
     let chroma_size = 2 * chroma_radius + 1;
     let chroma_end = CPP_CHROMA + chroma_size * chroma_size;
-    let h = checksum::floats(0, &cpp[..lum_end]);
-    checksum::floats(h, &cpp[CPP_CHROMA..chroma_end])
-}
-
-fn two(rt: &impl Print, a: u64, b: u64) -> io::Result<()> {
-    print!(rt; " {a} {b}")
+    Checksum::of(&cpp[..lum_end]).with(&cpp[CPP_CHROMA..chroma_end])
 }
 
 // What a line says of an eye.
-fn answer(rt: &impl Print, params: DbsParams, cpp: &mut [f64]) -> io::Result<()>
-    requires { length cpp.old ≡ cpp_length }
-{
-    let eye = params.validate();
-    let status = eye.status;
-    if status.number != 0 {
-        return two(rt, status.number, status.place);
-    }
-    let sum = kernels(params, eye.lum_radius, eye.chroma_radius, cpp);
-    two(rt, eye.lum_radius as u64, eye.chroma_radius as u64)?;
-    print!(rt; " {sum:08x}")
-}
-
-fn line(rt: &impl Print, ppi: u64, distance: u64, cpp: &mut [f64]) -> io::Result<()>
-    requires { length cpp.old ≡ cpp_length }
-{
-    print!(rt; "{ppi:016x} {distance:016x}")?;
-    let params = DbsParams {
-        viewing_distance_cm: bits::to_float(distance),
-        ppi: bits::to_float(ppi),
+fn answer(rt: &impl Print, params: DbsParams, cpp: &mut [f64; CPP_LEN]) -> io::Result<()> {
+    let eye = match params.validate() {
+        Ok(eye) => eye,
+        Err(refusal) => {
+            let status = Status::from(refusal);
+            return println!(rt; " {} {}", status.number, status.place);
+        }
     };
-    answer(rt, params, cpp)?;
-    print!(rt; "\n")
-}
-
-fn lines(rt: &impl Print, cpp: &mut [f64]) -> io::Result<()>
-    requires { length cpp.old ≡ cpp_length }
-{
-    let eyes = EYES;
-    for i in 0..COUNT {
-        line(rt, eyes[2 * i], eyes[2 * i + 1], cpp)?;
-    }
-    Ok(())
+    let sum = kernels(params, eye.lum_radius, eye.chroma_radius, cpp);
+    println!(rt; " {} {} {sum}", eye.lum_radius, eye.chroma_radius)
 }
 
 fn main(rt: HostRuntime) -> io::Result<()> {
-    let mut cpp = [0.0f64; 8450];
-    lines(&rt, &mut cpp)
+    let mut cpp = [0.0; CPP_LEN];
+    for (ppi, distance) in EYES {
+        print!(rt; "{ppi:016x} {distance:016x}")?;
+        let params = DbsParams {
+            viewing_distance_cm: bits::to_float(distance),
+            ppi: bits::to_float(ppi),
+        };
+        answer(&rt, params, &mut cpp)?;
+    }
+    Ok(())
 }

@@ -4,8 +4,8 @@ use native.Mathlib.Omega.{arith}
 use native.Mathlib.Nat.{zero-add, mod-lt, div-lt_iff_lt-mul, div-add-mod', mul_assoc, mul_comm, add-mul, mul-le-mul, mul-le-mul_right}
 use mathlib.Core.Path.{◌≡◌, refl, sym, ap, ◌∙◌}
 use mathlib.Core.Logic.{◌≢◌, ⊎_elim}
-use mathlib.Core.List.{List}
-use lib.ListN.{length}
+use mathlib.Core.List.{List, [], ◌∷◌}
+use lib.ListN.{length, get_or}
 use lib.Ieee.{Float, nan}
 use borrow.Rule.Slice.PartMut.{mid_of, mid_len}
 use Rattle.base.specs.Limits.{max_radius, cpp_chroma}
@@ -14,10 +14,12 @@ use Rattle.base.specs.F64.{f0}
 use Rattle.base.proofs.Bounds.{index_lt, image_product, lt_or_ge}
 use Rattle.base.proofs.LoopLaws.{from_to_same}
 use Rattle.base.proofs.TableLaws.{length-table, get_d_table, table_of}
-use Rattle.color.specs.Inks.{channel}
+use Rattle.color.specs.declared.Channel.{Channel}
+use Rattle.color.specs.declared.Channel.TheVariants.{Yy, Cx, Cz}
+use Rattle.color.specs.Inks.{number}
 use Rattle.tiling.specs.declared.Tiling.{Tiling}
 use Rattle.cpp.specs.declared.Kernel2D.{Kernel2D}
-use Rattle.cpp.specs.Kernel.{KernelFits, size, kernel_at, chroma_kernel}
+use Rattle.cpp.specs.Kernel.{KernelFits, size, kernel_at}
 use Rattle.correlate.specs.Correlate.{at, cell_at, Spread}
 use Rattle.correlate.proofs.RowLaws.{at_mid}
 use Rattle.correlate.proofs.SpreadLaws.{spread_same}
@@ -25,25 +27,31 @@ use Rattle.error.specs.Error.{Scene}
 use Rattle.block.specs.declared.Block.{Block}
 use Rattle.block.specs.Block.{sum_term, sum_row, sum_rows, BlockFits}
 use Rattle.field.specs.Field.{correlate_term, correlate_row, correlate_at, channel_kernel, field_at, field_value, field_of, FieldFits}
-use Rattle.weave.specs.Woven.{woven, Woven}
+use Rattle.weave.specs.Woven.{Woven}
 use Rattle.field.specs.Lines.{channel_lines, channel_block, channel_sum, FieldLines}
 
 -- ---- the kernel of a channel
 
 -- a kernel within its limits
-pub square_most : (r : ℕ) → r ≤ max_radius → (2 * r + 1) * (2 * r + 1) ≤ cpp_chroma
+square_most : (r : ℕ) → r ≤ max_radius → (2 * r + 1) * (2 * r + 1) ≤ cpp_chroma
 square_most r h = let e : 2 * r + 1 ≤ 65 = omega (arith, h) in omega (arith, mul-le-mul e e)
 
-pub kernel_fits : (T : Tiling) (G : Scene) (cpp : List Float) (c : ℕ) → FieldFits T G cpp → KernelFits (channel_kernel T c) cpp
+kernel_fits : (T : Tiling) (w h : ℕ) (cpp : List Float) (c : ℕ) → FieldFits T w h (length cpp) → KernelFits (channel_kernel T c) cpp
 unfolding channel_kernel
-kernel_fits T G cpp zero f = record { most = f.limits.lum_limit; room = omega (arith, f.store); all = f.store }
-kernel_fits T G cpp (suc c) f = record { most = f.limits.chroma_limit; room = omega (arith, f.store); all = f.store }
+kernel_fits T w h cpp zero f = record { most = f.limits.lum_limit; room = omega (arith, f.store); all = f.store }
+kernel_fits T w h cpp (suc c) f = record { most = f.limits.chroma_limit; room = omega (arith, f.store); all = f.store }
 
--- a channel after the first
-pub kernel_chroma : (T : Tiling) (c : ℕ) → c ≢ 0 → chroma_kernel T ≡ channel_kernel T c
-unfolding channel_kernel
-kernel_chroma T zero h = absurd (h refl)
-kernel_chroma T (suc c) h = refl
+number_lt : (C : Channel) → number C < 3
+number_lt Yy = omega arith
+number_lt Cx = omega arith
+number_lt Cz = omega arith
+
+-- the channels in order
+pub number_at : (i : ℕ) (d : Channel) → i < 3 → number (get_or (Yy ∷ Cx ∷ Cz ∷ []) i d) ≡ i
+number_at zero d h = refl
+number_at (suc zero) d h = refl
+number_at (suc (suc zero)) d h = refl
+number_at (suc (suc (suc i))) d h = absurd (omega arith)
 
 -- ---- a channel as a block
 
@@ -54,44 +62,47 @@ tap_in v r y h low high = omega (arith, low, high)
 part_in : (n a m : ℕ) → n < m → n < a + m - a
 part_in n a m h = omega (arith, h)
 
-module _ (T : Tiling) (G : Scene) (cpp : List Float) (c : ℕ) (fits : FieldFits T G cpp) (k : Kernel2D) (own : k ≡ channel_kernel T c) where
+module _ (T : Tiling) (w h : ℕ) (G : Scene) (cpp : List Float) (C : Channel) (fits : FieldFits T w h (length cpp)) (k : Kernel2D) (own : k ≡ channel_kernel T (number C)) where
+  abbrev c : ℕ
+  c = number C
+
   abbrev r : ℕ
   r = k.radius
 
-  pub own_fits : KernelFits k cpp
-  own_fits = rw own (kernel_fits T G cpp c fits)
+  own_fits : KernelFits k cpp
+  own_fits = rw own (kernel_fits T w h cpp c fits)
 
   -- the kernel's values in the store
   abbrev pub taps : List Float
   taps = mid_of k.from (k.from + size k * size k - k.from) cpp
 
   -- the values lie in the store
-  pub taps_room : (k.from + size k * size k ≤ length cpp) × (length taps ≡ size k * size k)
-  taps_room =
-      let f = own_fits in
-      let room : k.from + size k * size k ≤ length cpp = omega (arith, square_most r f.most, f.room) in
-      (room, mid_len k.from (k.from + size k * size k) cpp room ∙ (omega arith))
+  pub own_room : (k.from + size k * size k ≤ length cpp) × (size k ≤ 65)
+  own_room = let f = own_fits in (omega (arith, square_most r f.most, f.room), omega (arith, f.most))
 
-  pub block_fits : (line cpe : ℕ) → c < 3 → line ≡ T.width → cpe ≡ 3 * (T.height * T.width) → BlockFits (channel_block T c r) G (length taps) line cpe
-  block_fits line cpe in_c l e =
+  long_taps : length taps ≡ size k * size k
+  long_taps = mid_len k.from (k.from + size k * size k) cpp own_room.0 ∙ (omega arith)
+
+  pub block_fits : (line cpe : ℕ) → line ≡ T.width → cpe ≡ 3 * (T.height * T.width) → BlockFits w h (channel_block T C r) (length taps) line cpe
+  block_fits line cpe l e =
       let f = own_fits in
-      let s = fits.scene in
+      let s = fits.limits in
+      let in_c = number_lt C in
       let twice : 2 * r + 1 ≡ r + r + 1 = omega arith in
       record {
-        scene = s;
         reach = omega (arith, f.most);
         wide = s.wide;
         apart = omega arith;
-        right = omega arith;
-        bottom = omega arith;
-        square = taps_room.1 ∙ ap (λ (n : ℕ). n * n) twice;
-        row = omega (arith, l);
+        right = omega (arith, fits.width);
+        bottom = omega (arith, fits.height);
+        square = long_taps ∙ ap (λ (n : ℕ). n * n) twice;
+        row = omega (arith, l, fits.width);
         room = λ y h. let m : suc (c + 3 * y) * T.width ≤ 3 * T.height * T.width = mul-le-mul_right T.width (omega (arith, h, in_c)) in omega (arith, m, mul_assoc 3 T.height T.width, e);
         most = omega (arith, e, image_product T.height T.width s.height_limit s.width_limit);
       }
 
   -- the block's sums are those of `correlate`
-  sum_is : (y x : ℕ) (s : Float) → sum_rows (channel_block T c r) G taps T.height y x s ≡ channel_sum T G cpp c y x s
+  sum_is : (y x : ℕ) (s : Float) → sum_rows T.width (channel_block T C r) G taps T.height y x s ≡ channel_sum T G cpp c y x s
   unfolding sum_rows sum_row sum_term channel_sum correlate_row correlate_term kernel_at
   sum_is y x s =
       let ex : 0 + x ≡ x = zero-add x in
@@ -107,10 +118,10 @@ module _ (T : Tiling) (G : Scene) (cpp : List Float) (c : ℕ) (fits : FieldFits
       let inside = part_in n k.from (size k * size k) (index_lt (u + r - x) (v + r - y) (size k) (size k) column row) in
       rw (twice, at_mid k.from (k.from + size k * size k - k.from) cpp n inside))))
 
-  pub channel_made : (B : Block) (cpe cpe' : List Float) → B ≡ channel_block T c r → Spread B.lines 0 B.rows (sum_rows B G taps B.height) cpe cpe' →
+  pub channel_made : (B : Block) (cpe cpe' : List Float) → B ≡ channel_block T C r → Spread B.lines 0 B.rows (sum_rows w B G taps h) cpe cpe' →
       Spread (channel_lines T c) 0 T.height (channel_sum T G cpp c) cpe cpe'
   channel_made B cpe cpe' e p =
-      spread_same (channel_lines T c) 0 T.height (sum_rows (channel_block T c r) G taps T.height) (channel_sum T G cpp c) cpe cpe' (rw e at p) (λ y x low high in_x s. sum_is y x s)
+      spread_same (channel_lines T c) 0 T.height (sum_rows T.width (channel_block T C r) G taps T.height) (channel_sum T G cpp c) cpe cpe' (rw (e, fits.width, fits.height) at p) (λ y x low high in_x s. sum_is y x s)
 
 -- ---- the field
 

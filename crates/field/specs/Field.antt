@@ -1,6 +1,6 @@
 -- `cpe`, document 01's field: `correlate` of dbs.rs
 -- (document 01, 'Light, eye and field': 'Floats are f64, operations in the Rust's order, none fused; a sum starts at 0.0 and runs left to right').
-use Rattle.std.specs.Prelude.{◌≡◌, List, ℕ, zero, suc, ◌+◌, ◌-◌, ◌*◌, ◌/◌, ◌%◌, min, length, Float}
+use Rattle.std.specs.Prelude.{◌≡◌, List, ℕ, zero, suc, ◌+◌, ◌-◌, ◌*◌, ◌/◌, ◌%◌, min, Float}
 use Rattle.base.specs.Limits.{cpp_length}
 use Rattle.base.specs.Loop.{from_to, table}
 use Rattle.base.specs.F64.{◌+f◌, ◌*f◌, f0}
@@ -9,7 +9,7 @@ use Rattle.tiling.specs.declared.Tiling.{Tiling}
 use Rattle.tiling.specs.Tiling.{Limits}
 use Rattle.cpp.specs.declared.Kernel2D.{Kernel2D}
 use Rattle.cpp.specs.Kernel.{lum_kernel, chroma_kernel, kernel_at}
-use Rattle.error.specs.Error.{Scene, error_at, SceneFits}
+use Rattle.error.specs.Error.{Scene, error_at}
 
 -- '`gaussian_blur`, `autocorrelate` .. and `correlate` follow': channel c of the error, correlated with kernel k at pixel (x, y)
 module _ (w : ℕ) (G : Scene) (cpp : List Float) (k : Kernel2D) (x y c : ℕ) where
@@ -44,8 +44,9 @@ field_of T G cpp = table (3 * (T.height * T.width)) (field_value T G cpp)
 
 -- ---- what the functions require
 
--- a scene that fits, radii within the limits, and a whole kernel store
-pub record FieldFits (T : Tiling) (G : Scene) (cpp : List Float) : Type 0 where
+-- radii within the limits, a scene of the image's size, and a whole kernel store
+pub record FieldFits (T : Tiling) (w h cpp : ℕ) : Type 0 where
   pub limits : Limits T
-  pub scene : SceneFits T.width T.height G
-  pub store : length cpp ≡ cpp_length
+  pub width : w ≡ T.width
+  pub height : h ≡ T.height
+  pub store : cpp ≡ cpp_length

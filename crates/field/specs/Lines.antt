@@ -3,9 +3,11 @@
 use Rattle.std.specs.Prelude.{◌≡◌, List, ℕ, ◌+◌, ◌-◌, ◌*◌, ◌<◌, ◌≤◌, min, length, Float}
 use Rattle.base.specs.Loop.{from_to}
 use Rattle.base.specs.F64.{f0}
+use Rattle.color.specs.declared.Channel.{Channel}
+use Rattle.color.specs.Inks.{number}
 use Rattle.tiling.specs.declared.Tiling.{Tiling}
 use Rattle.correlate.specs.declared.Lines.{Lines}
-use Rattle.correlate.specs.Correlate.{at, cell_at}
+use Rattle.correlate.specs.Correlate.{cell_at}
 use Rattle.error.specs.Error.{Scene}
 use Rattle.block.specs.declared.Block.{Block}
 use Rattle.field.specs.Field.{correlate_row, channel_kernel, field_at}
@@ -16,8 +18,8 @@ abbrev pub channel_lines : Tiling → ℕ → Lines
 channel_lines T c = record { width = T.width; first = c; step = 3 }
 
 -- the lines of channel c, as the block that takes pixels within a radius
-abbrev pub channel_block : Tiling → ℕ → ℕ → Block
-channel_block T c r = record { width = T.width; height = T.height; channel = c; x = 0; y = 0; rows = T.height; before = r; after = r; lines = channel_lines T c }
+abbrev pub channel_block : Tiling → Channel → ℕ → Block
+channel_block T c r = record { channel = c; x = 0; y = 0; rows = T.height; before = r; after = r; lines = channel_lines T (number c) }
 
 -- channel c of the error, correlated with its kernel at pixel (x, y) and added to s
 unfoldable pub channel_sum : Tiling → Scene → List Float → ℕ → ℕ → ℕ → Float → Float

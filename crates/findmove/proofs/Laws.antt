@@ -1,36 +1,35 @@
 -- What the code makes, step by step, is what `find_of` says: the tests one after the other are the one list, and an accepted input is searched. Assumes nothing.
-use Prim.Native.Nat.{ℕ, ◌/◌}
+use Prim.Native.Nat.{◌/◌}
 use mathlib.Core.Path.{◌≡◌, refl, sym, ap, ◌∙◌}
 use mathlib.Core.List.{List}
 use lib.ListN.{length}
 use lib.Ieee.{Float}
+use Rattle.std.specs.Prelude.{Option}
 use Rattle.base.specs.declared.Status.{Status}
-use Rattle.base.specs.Refusal.{judge, judge_from, accepted}
-use Rattle.base.proofs.JudgeLaws.{judge-zero}
+use Rattle.base.specs.declared.Refusal.{Refusal}
+use Rattle.base.specs.Answer.{number_and_place}
+use Rattle.base.specs.Refusal.{judge, accepted}
+use Rattle.base.proofs.JudgeLaws.{refuses}
 use Rattle.base.specs.Rows.{Judged}
 use Rattle.base.proofs.AnswerLaws.{Answers, answers, judged}
 use Rattle.tiling.specs.declared.Tiling.{Tiling}
-use Rattle.input.specs.Input.{Input, ink_count, find_run_tests, find_tests}
+use Rattle.input.specs.Input.{Input, ink_count, find_tests}
 use Rattle.input.specs.Valid.{ValidFind}
 use Rattle.input.specs.Rows.{find_rows}
 use Rattle.input.proofs.Validity.{find_numbered, find_passes}
 use Rattle.input.proofs.RowsOf.{find_rows_lem}
-use Rattle.sizes.specs.declared.Sizes.{Sizes}
-use Rattle.sizes.specs.Sizes.{sizes_of}
-use Rattle.sizes.proofs.Laws.{find_verdict, tiling_is}
 use Rattle.search.specs.Shared.{shared}
 use Rattle.prepare.specs.Prepare.{ReadyToPrepare, Built, tiling_of, shared_of}
-use Rattle.prepare.proofs.Laws.{sized, ready_to_prepare}
-use Rattle.firstmove.specs.declared.First.{First}
+use Rattle.prepare.proofs.Laws.{ready_to_prepare}
+use Rattle.firstmove.specs.declared.FirstMove.{FirstMove}
 use Rattle.firstmove.specs.FirstMove.{first_in_pass}
-use Rattle.found.specs.declared.Answer.TheVariants.{Searched}
-use Rattle.found.specs.Found.{refused_of, found_of}
+use Rattle.found.specs.Found.{refused_of, searched_of}
 use Rattle.found.proofs.Laws.{searched_status}
 use Rattle.findmove.specs.FindMove.{search, first_of, search_accepted, finding, find_status, found, refused, find_of}
 
 -- ---- an accepted input
 
-pub searches_as : (I : Input) (T : Tiling) (inks cpp₀ cpp cpe : List Float) (f : First) → T ≡ tiling_of I → Built I cpp₀ inks cpp cpe →
+pub searches_as : (I : Input) (T : Tiling) (inks cpp₀ cpp cpe : List Float) (f : Option FirstMove) → T ≡ tiling_of I → Built I cpp₀ inks cpp cpe →
     f ≡ first_in_pass (shared T (length I.palette / 3) I.pinned inks cpp) cpe I.indices → search f cpe cpp inks ≡ search_accepted I cpp₀
 unfolding search_accepted first_of shared_of ink_count
 searches_as I T inks cpp₀ cpp cpe f t p e = rw (e, t, p.inks_is, p.cpp_is, p.cpe_is)
@@ -38,7 +37,6 @@ searches_as I T inks cpp₀ cpp cpe f t p e = rw (e, t, p.inks_is, p.cpp_is, p.c
 -- ---- every input
 
 refused_status : (s : Status) (cpe cpp inks : List Float) → find_status (refused s cpe cpp inks) ≡ s
-unfolding found_of
 refused_status s cpe cpp inks = refl
 
 module _ (I : Input) (cpe cpp inks : List Float) where
@@ -52,32 +50,20 @@ module _ (I : Input) (cpe cpp inks : List Float) where
 
   -- demand 1 of find_move
   pub find_judged : Judged find_status (ValidFind I (length cpe) (length cpp) (length inks)) (λ s. finding (refused_of s) cpe cpp inks) (find_rows I (length cpe) (length cpp) (length inks)) (find_of I cpe cpp inks)
-  unfolding found_of
   find_judged =
       judged find_answers (find_numbered I (length cpe) (length cpp) (length inks)) (find_passes I (length cpe) (length cpp) (length inks)) (find_rows_lem I (length cpe) (length cpp) (length inks))
 
-  -- the sizes that were found, and the status that followed
-  module _ (S : Sizes) (q : S ≡ sizes_of I) (r : Status) (e : r ≡ judge_from S.status (find_run_tests S.field S.values (length cpe) (length cpp) (length inks))) where
-    verdict_is : r ≡ verdict
-    verdict_is = find_verdict I S q (length cpe) (length cpp) (length inks) r e
+  pub refused_is : (r : Refusal) → number_and_place r ≡ verdict → refused (number_and_place r) cpe cpp inks ≡ find_of I cpe cpp inks
+  refused_is r e = ap (λ s. refused s cpe cpp inks) e ∙ sym (find_answers.keeps (refuses r _ e))
 
-    pub refused_is : (r.number ≡ 0 → ⊥) → refused r cpe cpp inks ≡ find_of I cpe cpp inks
-    refused_is n = ap (λ s. refused s cpe cpp inks) verdict_is ∙ sym (find_answers.keeps (λ a. n (ap (λ (s : Status). s.number) (verdict_is ∙ a))))
+  -- the tests passed, and the tiling that was found
+  module _ (T : Tiling) (ok : accepted ≡ verdict) (q : T ≡ tiling_of I) where
+    valid : ValidFind I (length cpe) (length cpp) (length inks)
+    valid = find_judged.accepts.0 (find_answers.told ∙ sym ok)
 
-    module _ (z : r.number ≡ 0) where
-      passed : verdict ≡ accepted
-      passed = judge-zero _ (find_numbered I (length cpe) (length cpp) (length inks)) (ap (λ (s : Status). s.number) (sym verdict_is) ∙ z)
+    pub ready : ReadyToPrepare I T (length inks) (length cpp) (length cpe)
+    ready = ready_to_prepare I T (length cpe) (length cpp) (length inks) q valid.valid valid.cpe_length valid.cpp_len valid.inks_length
 
-      valid : ValidFind I (length cpe) (length cpp) (length inks)
-      valid = find_judged.accepts.0 (find_answers.told ∙ passed)
-
-      tiling : S.tiling ≡ tiling_of I
-      tiling = tiling_is I S q valid.valid
-
-      pub ready : ReadyToPrepare (sized I S.tiling) S.tiling (length inks) (length cpp) (length cpe)
-      ready = ready_to_prepare I S.tiling (length cpe) (length cpp) (length inks) tiling valid.valid valid.cpe_length valid.cpp_len valid.inks_length
-
-      pub searched_is : (f : First) (cpe' cpp' inks' : List Float) → search f cpe' cpp' inks' ≡ search_accepted (sized I S.tiling) cpp →
-          finding (found_of (Searched f)) cpe' cpp' inks' ≡ find_of I cpe cpp inks
-      unfolding tiling_of
-      searched_is f cpe' cpp' inks' h = ap found (rw tiling at h) ∙ sym (find_answers.leaves passed)
+    pub searched_is : (f : Option FirstMove) (cpe' cpp' inks' : List Float) → search f cpe' cpp' inks' ≡ search_accepted I cpp →
+        finding (searched_of f) cpe' cpp' inks' ≡ find_of I cpe cpp inks
+    searched_is f cpe' cpp' inks' h = ap found h ∙ sym (find_answers.leaves (sym ok))

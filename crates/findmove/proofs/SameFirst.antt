@@ -5,6 +5,7 @@ use mathlib.Core.Path.{◌≡◌}
 use mathlib.Core.List.{List}
 use lib.ListN.{length}
 use lib.Ieee.{Float}
+use Rattle.std.specs.Prelude.{Option}
 use Rattle.base.specs.declared.Rect.{Rect}
 use Rattle.base.specs.Limits.{cpp_length}
 use Rattle.base.specs.Refusal.{judge, accepted}
@@ -17,8 +18,8 @@ use Rattle.input.specs.Input.{Input, ink_count, input_tests}
 use Rattle.prepare.specs.Prepare.{tiling_of, inks_of, cpp_of, cpe_of, shared_of}
 use Rattle.prepare.specs.SameKernels.{SameKernels}
 use Rattle.prepare.proofs.SameKernels.{evaluate_same, same_kernels, same_cpe}
-use Rattle.firstmove.specs.declared.First.{First}
-use Rattle.firstmove.specs.FirstMove.{move_at, or_else, first_in_row, first_in_tile, first_try, first_in_phase, first_in_pass}
+use Rattle.firstmove.specs.declared.FirstMove.{FirstMove}
+use Rattle.firstmove.specs.FirstMove.{move_at, first_in_row, first_in_tile, first_try, first_in_phase, first_in_pass}
 use Rattle.findmove.specs.FindMove.{first_of}
 
 module _ (T : Tiling) (cpp cpp' : List Float) (e : SameKernels T cpp cpp') (count : ℕ) (pinned : List ℕ) (inks : List Float) (cpe : List Float) (indices : List ℕ) where
@@ -32,11 +33,11 @@ module _ (T : Tiling) (cpp cpp' : List Float) (e : SameKernels T cpp cpp') (coun
   unfolding move_at
   move_same x y = rw (evaluate_same T cpp cpp' e count pinned inks (image T) x y cpe indices no_move)
 
-  tile_same : (Q : Rect) (f : First) → first_in_tile S cpe indices Q f ≡ first_in_tile S' cpe indices Q f
+  tile_same : (Q : Rect) (f : Option FirstMove) → first_in_tile S cpe indices Q f ≡ first_in_tile S' cpe indices Q f
   unfolding first_in_tile first_in_row
   tile_same Q f = from_to_same _ _ _ _ f (λ y p q f. from_to_same _ _ _ _ f (λ x p' q' f. rw (move_same x y)))
 
-  try_same : (phase t : ℕ) (f : First) → first_try S cpe indices phase t f ≡ first_try S' cpe indices phase t f
+  try_same : (phase t : ℕ) (f : Option FirstMove) → first_try S cpe indices phase t f ≡ first_try S' cpe indices phase t f
   unfolding first_try
   try_same phase t f = rw (tile_same (tile T t) f)
 

@@ -1,41 +1,33 @@
 -- What the walk on a copy says of the image: the copy has the image's values, so each pixel has its best move there too. A walk that accepts nothing has found
 -- nothing; of one pixel that moves the delta is the cost, and the number of pixels of its ink tells the kind: a toggle takes one away, a swap does not. Assumes nothing.
-use Prim.Native.Nat.{ℕ, zero, suc, ◌+◌, ◌-◌, ◌*◌, ◌≤◌, ◌<◌, min}
+use Prim.Native.Nat.{ℕ, ◌+◌, ◌-◌, ◌≤◌, min}
 use native.Mathlib.Omega.{arith}
 use native.Mathlib.Nat.{one-mul}
-use mathlib.Core.Path.{◌≡◌, refl, sym, ap, ◌∙◌, subst}
-use mathlib.Core.Logic.{◌≢◌}
-use mathlib.Core.Bool.{Bool, true, false, cond}
-use mathlib.Core.List.{List, [], ◌∷◌}
-use lib.Dec.{T, eqb}
-use lib.ListN.{length, get_or, set}
-use lib.Seq.{get_or-set_same, get_or-set_other}
-use lib.Ieee.{Float, nan, binary64, fits, lt}
-use borrow.Author.Tests.{eq-eqb, ne_eqb, eqb-false}
+use mathlib.Core.Path.{◌≡◌, sym, ap, ◌∙◌}
+use mathlib.Core.List.{List}
+use lib.ListN.{length}
+use lib.Ieee.{Float, nan}
+use Rattle.std.specs.Prelude.{None}
 use Rattle.base.specs.declared.Rect.{Rect}
-use Rattle.base.specs.Limits.{max_side}
-use Rattle.base.specs.Grid.{area, Inside, Within, place, cell, crop, put}
+use Rattle.base.specs.Grid.{area, Inside, Within, crop}
 use Rattle.base.proofs.LoopLaws.{from_to_none, from_to_more}
-use Rattle.base.proofs.GridLaws.{length-crop, cell-crop, place_lt}
+use Rattle.base.proofs.GridLaws.{length-crop, cell-crop}
 use Rattle.tiling.specs.declared.Tiling.{Tiling}
 use Rattle.tiling.specs.Tiling.{image, Limits}
-use Rattle.search.specs.Shared.{Shared, Ready, index_at, Named}
-use Rattle.search.specs.Search.{no_move, evaluate_of}
-use Rattle.search.proofs.Laws.{index_named}
+use Rattle.search.specs.Shared.{Shared, Ready}
+use Rattle.search.specs.Search.{no_move}
 use Rattle.tile.specs.Tile.{State, state, refine_tile, no_progress, Covers}
 use Rattle.tile.proofs.Around.{Around}
 use Rattle.tile.proofs.Local.{Agrees, evaluate_local}
 use Rattle.copy.specs.Part.{Holds}
 use Rattle.copy.proofs.Parts.{crop_below}
-use Rattle.firstmove.specs.declared.First.{First}
-use Rattle.firstmove.specs.declared.First.TheVariants.{Nothing, ToggleAt, SwapAt}
-use Rattle.firstmove.specs.FirstMove.{move_of, move_at, first_in_row, first_in_tile}
-use Rattle.firstmove.specs.Copies.{Part, around, copied, walked, count_of}
+use Rattle.firstmove.specs.FirstMove.{first_in_row, first_in_tile}
+use Rattle.firstmove.specs.Copies.{Part, around, walked}
 use Rattle.firstmove.proofs.Walks.{SameBest, quiet}
 
 -- ---- the window
 
-cut : (a b n : ℕ) → a ≤ b → b ≤ n → (a - 1 ≤ min (b + 1) n) × (min (b + 1) n ≤ n)
+cut : (a b n : ℕ) → a ≤ b → b ≤ n → (a - 1 ≤ min n (b + 1)) × (min n (b + 1) ≤ n)
 cut a b n p q = (omega arith, omega arith)
 
 module _ (T : Tiling) (Q : Rect) (p : Part T Q) where
@@ -125,11 +117,11 @@ module _ (S : Shared) (cpe : List Float) (indices : List ℕ) where
 
   -- ---- a row
 
-  one_row : (Q : Rect) (y : ℕ) → first_in_tile S cpe indices (strip Q y) Nothing ≡ first_in_row S cpe indices Q y Nothing
+  one_row : (Q : Rect) (y : ℕ) → first_in_tile S cpe indices (strip Q y) None ≡ first_in_row S cpe indices Q y None
   unfolding first_in_tile first_in_row
-  one_row Q y = from_to_more y y (first_in_row S cpe indices (strip Q y)) Nothing (omega arith) ∙ ap (first_in_row S cpe indices (strip Q y) y) (from_to_none y y _ Nothing (omega arith))
+  one_row Q y = from_to_more y y (first_in_row S cpe indices (strip Q y)) None (omega arith) ∙ ap (first_in_row S cpe indices (strip Q y) y) (from_to_none y y _ None (omega arith))
 
   -- a row over which the walk accepts no move
-  pub quiet_row : (Q : Rect) (y : ℕ) → Part S.tiling (strip Q y) → (walked S cpe indices (strip Q y)).progress.accepted ≡ 0 → first_in_row S cpe indices Q y Nothing ≡ Nothing
+  pub quiet_row : (Q : Rect) (y : ℕ) → Part S.tiling (strip Q y) → (walked S cpe indices (strip Q y)).progress.accepted ≡ 0 → first_in_row S cpe indices Q y None ≡ None
   unfolding walked
   quiet_row Q y p e = sym (one_row Q y) ∙ quiet S cpe indices (around S.tiling (strip Q y)) _ _ (strip Q y) (same_best (strip Q y) p) e

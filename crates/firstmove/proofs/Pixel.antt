@@ -1,29 +1,27 @@
 -- The walk over one pixel, on a copy of it and its neighbours, tells its move: where it accepts one, the delta is the cost, as 0.0 and a cost below 0 is that
 -- cost; and a toggle takes one pixel of its ink away, a swap none. Assumes nothing.
-use Prim.Native.Nat.{ℕ, zero, suc, ◌+◌, ◌-◌, ◌*◌, ◌≤◌, ◌<◌}
+use Prim.Native.Nat.{ℕ, zero, suc, ◌+◌, ◌*◌, ◌≤◌, ◌<◌}
 use native.Mathlib.Omega.{arith}
 use native.Mathlib.Nat.{add-zero, one-mul}
-use mathlib.Core.Path.{◌≡◌, refl, sym, ap, ◌∙◌, subst}
+use mathlib.Core.Path.{◌≡◌, refl, sym, ap, ◌∙◌}
 use mathlib.Core.Logic.{◌≢◌}
 use mathlib.Core.Bool.{Bool, true, false, cond, true≢false}
 use mathlib.Core.List.{List, [], ◌∷◌}
 use lib.Dec.{T, eqb}
 use lib.ListN.{length, get_or, set, drop, length-set, drop_of_length-le}
 use lib.Seq.{get_or-set_other, drop-cons}
-use lib.Ieee.{Float, nan, binary64, fits, add, neg, lt, round, of_bits}
+use lib.Ieee.{Float, nan, binary64, fits, neg, lt, round, of_bits}
 use lib.Ieee.Fits.{add-fits}
-use borrow.Author.Tests.{eq-eqb, ne_eqb, eqb-true, eqb-false}
+use borrow.Author.Tests.{eq-eqb, ne_eqb, eqb-false}
 use Rattle.base.specs.declared.Rect.{Rect}
 use Rattle.base.specs.F64.{f0, ◌+f◌}
-use Rattle.base.specs.Decimal.{decimal}
 use Rattle.base.specs.Loop.{from_to}
 use Rattle.base.specs.Grid.{area, Inside, place, cell, crop, put}
 use Rattle.base.proofs.LoopLaws.{up_to_keeps, from_to_none, from_to_more}
 use Rattle.base.proofs.GridLaws.{place_lt, length-crop, cell-crop}
 use Rattle.tiling.specs.Tiling.{image}
 use Rattle.color.specs.Values.{values_at, less_of}
-use Rattle.neighbour.specs.declared.Adjacent.{Adjacent}
-use Rattle.neighbour.specs.declared.Adjacent.TheVariants.{Pixel, Outside}
+use Rattle.std.specs.Prelude.{Option, Some, None}
 use Rattle.search.specs.declared.Best.{Best}
 use Rattle.search.specs.declared.Site.{Site}
 use Rattle.search.specs.declared.Move.{Move}
@@ -37,8 +35,7 @@ use Rattle.pins.specs.Pins.{pinned_at}
 use Rattle.progress.specs.Progress.{counted}
 use Rattle.tile.specs.Tile.{State, state, applied, visit_of, refine_row, refine_tile, no_progress}
 use Rattle.tile.proofs.Keeps.{covers_held}
-use Rattle.firstmove.specs.declared.First.{First}
-use Rattle.firstmove.specs.declared.First.TheVariants.{Nothing, ToggleAt, SwapAt}
+use Rattle.firstmove.specs.declared.FirstMove.{FirstMove}
 use Rattle.firstmove.specs.FirstMove.{move_of, move_at}
 use Rattle.firstmove.specs.Copies.{Part, around, copied, walked, count_of, told}
 use Rattle.firstmove.proofs.Laws.{column, column_first}
@@ -47,10 +44,6 @@ use Rattle.firstmove.proofs.ZeroPlus.{zero_plus}
 use Rattle.firstmove.proofs.Copies.{around_covers, same_best}
 
 -- ---- how many are k
-
-pub one_most : (b : Bool) (r : ℕ) → r ≡ cond b 1 0 → r ≤ 1
-one_most true r e = omega (arith, e)
-one_most false r e = omega (arith, e)
 
 module _ (k : ℕ) where
   abbrev one : ℕ → ℕ
@@ -80,8 +73,11 @@ module _ (k : ℕ) where
   pub count_start : (l : List ℕ) → 0 + count_of k (drop 0 l) ≡ count_of k l
   count_start l = omega arith
 
-  pub count_turn : (l : List ℕ) (i n r : ℕ) → i < length l → n + count_of k (drop i l) ≡ count_of k l → r ≡ one (get_or l i 0) → n + r + count_of k (drop (i + 1) l) ≡ count_of k l
-  count_turn l i n r h e o = omega (arith, count_next l i h, e, o)
+  pub count_hit : (l : List ℕ) (i n : ℕ) → i < length l → n + count_of k (drop i l) ≡ count_of k l → get_or l i 0 ≡ k → n + 1 + count_of k (drop (i + 1) l) ≡ count_of k l
+  count_hit l i n h e o = omega (arith, rw (eq-eqb _ _ o) at (count_next l i h), e)
+
+  pub count_miss : (l : List ℕ) (i n : ℕ) → i < length l → n + count_of k (drop i l) ≡ count_of k l → get_or l i 0 ≢ k → n + count_of k (drop (i + 1) l) ≡ count_of k l
+  count_miss l i n h e o = omega (arith, rw (ne_eqb _ _ o) at (count_next l i h), e)
 
   pub count_end : (l : List ℕ) (i n : ℕ) → length l ≤ i → n + count_of k (drop i l) ≡ count_of k l → n ≡ count_of k l
   unfolding count_of
@@ -120,9 +116,9 @@ module _ (S : Shared) (W : Rect) (cpe : List Float) (indices : List ℕ) (x y : 
       go j b q true = q
       go j b q false = better_fits b _ (Toggle j) q (unfold toggle_cost in add-fits binary64 _ _)
 
-  swap_fits : (code : ℕ) (b : Best) (a : Adjacent) → Fit b → Fit (swap_with S W cpe indices site code b a)
-  swap_fits code b (Pixel nx ny) q = better_fits b _ (Swap code) q (unfold swap_cost in add-fits binary64 _ _)
-  swap_fits code b Outside q = q
+  swap_fits : (code : ℕ) (b : Best) (a : Option (ℕ × ℕ)) → Fit b → Fit (swap_with S W cpe indices site code b a)
+  swap_fits code b (Some (nx, ny)) q = better_fits b _ (Swap code) q (unfold swap_cost in add-fits binary64 _ _)
+  swap_fits code b None q = q
 
   swaps_fit : (b : Best) → Fit b → Fit (swaps S W cpe indices x y site b)
   unfolding swaps try_swap
@@ -151,7 +147,7 @@ module _ (S : Shared) (W : Rect) (indices : List ℕ) (x y : ℕ) (room : length
   unfolding moved_indices put cell
   toggle_takes j n e = let c = count_less k indices (place 1 W x y 0) j (at_place x y i) refl n in omega arith
 
-  exchange_keeps : (nx ny : ℕ) → Inside W nx ny → index_at W indices nx ny ≢ k → count_of k (exchanged W x y (Pixel nx ny) indices) ≡ count_of k indices
+  exchange_keeps : (nx ny : ℕ) → Inside W nx ny → index_at W indices nx ny ≢ k → count_of k (exchanged W x y (Some (nx, ny)) indices) ≡ count_of k indices
   unfolding put cell
   exchange_keeps nx ny h n =
       let p = place 1 W x y 0 in
@@ -209,13 +205,13 @@ module _ (S : Shared) (W : Rect) (values : List Float) (inks : List ℕ) (x y : 
   -- after the visit
   pub visited : (pixel : ℕ) → (visit_of S W x y start).progress.accepted ≢ 0 →
       let r = visit_of S W x y start in
-      let m = cond (pinned_at S.pinned S.tiling.width x y) Nothing (move_of pixel best.cost best.mv) in
+      let m = cond (pinned_at S.pinned S.tiling.width x y) None (move_of pixel best.cost best.mv) in
       m ≡ told (eqb (count_of ink r.indices) (count_of ink inks)) pixel r.progress.delta
   unfolding visit_of applied
   visited pixel = go (pinned_at S.pinned S.tiling.width x y)
     where
       go : (b : Bool) → let r = cond b start (applied S W x y best start) in r.progress.accepted ≢ 0 →
-          cond b Nothing (move_of pixel best.cost best.mv) ≡ told (eqb (count_of ink r.indices) (count_of ink inks)) pixel r.progress.delta
+          cond b None (move_of pixel best.cost best.mv) ≡ told (eqb (count_of ink r.indices) (count_of ink inks)) pixel r.progress.delta
       go true n = absurd (n refl)
       go false n = unfold applied in moved pixel best.mv best.cost (evaluate_fair S W values inks x y) (delta_is S W values inks x y) n
 
@@ -236,13 +232,12 @@ module _ (S : Shared) (cpe : List Float) (indices : List ℕ) (x y : ℕ) (p : P
       ∙ from_to_more x x _ _ (omega arith)
       ∙ ap (visit_of S W x y) (from_to_none x x _ _ (omega arith))
 
-  pub pixel_stays : (walked S cpe indices (one_pixel x y)).progress.accepted ≡ 0 → move_at S cpe indices x y ≡ Nothing
-  pixel_stays e = sym (column_first S cpe indices x y) ∙ go (column S cpe indices y x Nothing) (visit_alike S cpe indices W _ _ x y (same_best S cpe indices (one_pixel x y) p x y own) Nothing _ refl)
+  pub pixel_stays : (walked S cpe indices (one_pixel x y)).progress.accepted ≡ 0 → move_at S cpe indices x y ≡ None
+  pixel_stays e = sym (column_first S cpe indices x y) ∙ go (column S cpe indices y x None) (visit_alike S cpe indices W _ _ x y (same_best S cpe indices (one_pixel x y) p x y own) None _ refl)
     where
-      go : (f : First) → Alike S cpe indices W (crop nan 3 (image S.tiling) W cpe) (crop 0 1 (image S.tiling) W indices) f (visit_of S W x y (copied S cpe indices W)) → f ≡ Nothing
-      go Nothing a = refl
-      go (ToggleAt pixel cost) a = absurd (omega (arith, ap (λ (s : State). s.progress.accepted) one_visit))
-      go (SwapAt pixel cost) a = absurd (omega (arith, ap (λ (s : State). s.progress.accepted) one_visit))
+      go : (f : Option FirstMove) → Alike S cpe indices W (crop nan 3 (image S.tiling) W cpe) (crop 0 1 (image S.tiling) W indices) f (visit_of S W x y (copied S cpe indices W)) → f ≡ None
+      go None a = refl
+      go (Some move) a = absurd (omega (arith, ap (λ (s : State). s.progress.accepted) one_visit))
 
   pub pixel_moves : (k : ℕ) → k ≡ index_at (image S.tiling) indices x y → (walked S cpe indices (one_pixel x y)).progress.accepted ≢ 0 →
       let r = walked S cpe indices (one_pixel x y) in

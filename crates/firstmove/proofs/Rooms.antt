@@ -6,15 +6,15 @@ use mathlib.Core.List.{List}
 use lib.ListN.{length, take}
 use lib.Seq.{length-take-le}
 use mathlib.Core.Logic.{◌≢◌}
-use mathlib.Core.Bool.{Bool, true, false, not}
+use mathlib.Core.Bool.{Bool, true, not}
 use lib.Dec.{eqb}
 use borrow.Author.Tests.{eqb-true}
 use lib.Ieee.{Float}
+use Rattle.std.specs.Prelude.{Option, None}
 use Rattle.base.specs.declared.Rect.{Rect}
 use Rattle.base.specs.Limits.{max_side, max_pixels}
 use Rattle.base.specs.Grid.{area, width, height, Inside, crop}
 use Rattle.base.proofs.Bounds.{product_le, index_lt, image_product}
-use Rattle.base.proofs.GridLaws.{length-crop}
 use Rattle.tiling.specs.declared.Tiling.{Tiling}
 use Rattle.tiling.specs.Tiling.{image, tile, Limits}
 use Rattle.tiling.proofs.TilingLaws.{tile_within}
@@ -22,15 +22,14 @@ use Rattle.tiling.proofs.Sizes.{tile_sides}
 use Rattle.search.specs.Shared.{Shared, Ready, index_at}
 use Rattle.progress.specs.declared.Progress.{Progress}
 use Rattle.tile.specs.Tile.{State, state}
-use Rattle.firstmove.specs.declared.First.{First}
-use Rattle.firstmove.specs.declared.First.TheVariants.{Nothing}
+use Rattle.firstmove.specs.declared.FirstMove.{FirstMove}
 use Rattle.firstmove.specs.FirstMove.{move_at}
 use Rattle.firstmove.specs.Copies.{Part, Row, OnePixel, around, walked, count_of, told}
 use Rattle.firstmove.proofs.Copies.{around_order, strip}
 use Rattle.firstmove.proofs.Laws.{denied, affirmed}
 use Rattle.firstmove.proofs.Pixel.{one_pixel, pixel_stays, pixel_moves}
 
-span : (a b n k : ℕ) → b - a ≤ k → min (b + 1) n - (a - 1) ≤ k + 2
+span : (a b n k : ℕ) → b - a ≤ k → min n (b + 1) - (a - 1) ≤ k + 2
 span a b n k h = omega arith
 
 pub area_is : (w : Rect) → area w ≡ (w.y1 - w.y0) * (w.x1 - w.x0)
@@ -73,8 +72,8 @@ pub still : (n : ℕ) (b : Bool) → b ≡ not (eqb n 0) → not b ≡ true → 
 still n b e d = eqb-true n 0 (affirmed (eqb n 0) (sym e ∙ denied b d))
 
 -- the part of a buffer that a copy takes
-pub taken : {A : Type 0} (l : List A) (n m b : ℕ) → length l ≡ b → n ≤ b → n ≡ m → length (take (n - 0) l) ≡ m
-taken l n m b e h s = let whole : n - 0 ≡ n = omega arith in rw whole (length-take-le n l (omega (arith, e)) ∙ s)
+pub taken : {A : Type 0} (l : List A) (n m b : ℕ) → length l ≡ b → n ≤ b → n ≡ m → length (take n l) ≡ m
+taken l n m b e h s = length-take-le n l (omega (arith, e)) ∙ s
 
 -- a pixel
 module _ (T : Tiling) (Q : Rect) (d : OnePixel T Q) where
@@ -106,13 +105,13 @@ module _ (S : Shared) (cpe : List Float) (indices : List ℕ) (n : ℕ) (Q : Rec
   image_index I e = rw e (own.0, (own.1, r.indices_room))
 
   module _ (values : List Float) (inks : List ℕ) (p : Progress) (e : state values inks p ≡ walked S cpe indices Q) where
-    pub stays_as : p.accepted ≡ 0 → Nothing ≡ move_at S cpe indices Q.x0 Q.y0
+    pub stays_as : p.accepted ≡ 0 → None ≡ move_at S cpe indices Q.x0 Q.y0
     stays_as h =
         let D = pixel_is S.tiling Q d in
         let part = subst (Part S.tiling) D (pixel_row S.tiling Q d).part in
         sym (pixel_stays S cpe indices Q.x0 Q.y0 part (ap (λ (R : Rect). (walked S cpe indices R).progress.accepted) (sym D) ∙ sym (ap (λ (s : State). s.progress.accepted) e) ∙ h))
 
-    pub moves_as : (W : Rect) → W ≡ around S.tiling Q → (k ink left : ℕ) (f : First) → k ≡ index_at (image S.tiling) indices Q.x0 Q.y0 →
+    pub moves_as : (W : Rect) → W ≡ around S.tiling Q → (k ink left : ℕ) (f : Option FirstMove) → k ≡ index_at (image S.tiling) indices Q.x0 Q.y0 →
         ink ≡ count_of k (crop 0 1 (image S.tiling) W indices) → left ≡ count_of k inks → f ≡ told (eqb left ink) pixel p.delta → p.accepted ≢ 0 → f ≡ move_at S cpe indices Q.x0 Q.y0
     moves_as W w k ink left f ek ei el ef h =
         let D = pixel_is S.tiling Q d in
@@ -120,7 +119,7 @@ module _ (S : Shared) (cpe : List Float) (indices : List ℕ) (n : ℕ) (Q : Rec
         let nonzero : (walked S cpe indices (one_pixel Q.x0 Q.y0)).progress.accepted ≢ 0 =
         λ z. h (ap (λ (s : State). s.progress.accepted) e ∙ ap (λ (R : Rect). (walked S cpe indices R).progress.accepted) D ∙ z) in
         let m = pixel_moves S cpe indices Q.x0 Q.y0 part k ek nonzero in
-        let at : State → Rect → First = λ s R. told (eqb (count_of k s.indices) (count_of k (crop 0 1 (image S.tiling) (around S.tiling R) indices))) pixel s.progress.delta in
+        let at : State → Rect → Option FirstMove = λ s R. told (eqb (count_of k s.indices) (count_of k (crop 0 1 (image S.tiling) (around S.tiling R) indices))) pixel s.progress.delta in
         ef
         ∙ ap (λ (a : ℕ). told (eqb a ink) pixel p.delta) el
         ∙ ap (λ (a : ℕ). told (eqb (count_of k inks) a) pixel p.delta) (ei ∙ ap (λ (R : Rect). count_of k (crop 0 1 (image S.tiling) R indices)) w)

@@ -1,15 +1,17 @@
 -- A SHAPE FOR SPEED: nothing that a reader has to believe.
 -- The search looks at pixels by the walk over a tile, on a copy of them and of their neighbours. proofs/ has the law that this gives what FirstMove.antt
 -- defines; no contract of another crate's answer cites it.
-use Rattle.std.specs.Prelude.{◌≡◌, Bool, true, false, cond, List, [], ◌∷◌, ℕ, ◌+◌, ◌-◌, ◌≤◌, ◌<◌, min, eqb, Float}
+use Rattle.std.specs.Prelude.{◌≡◌, Bool, true, false, cond, Option, Some, List, [], ◌∷◌, ℕ, ◌+◌, ◌-◌, ◌≤◌, ◌<◌, eqb, Float}
 use Rattle.std.specs.Float.{nan}
 use Rattle.base.specs.declared.Rect.{Rect}
-use Rattle.base.specs.Grid.{crop}
+use Rattle.base.specs.Grid.{crop, with_margin}
 use Rattle.tiling.specs.declared.Tiling.{Tiling}
 use Rattle.tiling.specs.Tiling.{image}
 use Rattle.search.specs.Shared.{Shared}
-use Rattle.firstmove.specs.declared.First.{First}
-use Rattle.firstmove.specs.declared.First.TheVariants.{ToggleAt, SwapAt}
+use Rattle.firstmove.specs.declared.FirstMove.{FirstMove}
+use Rattle.firstmove.specs.declared.Kind.{Kind}
+use Rattle.firstmove.specs.declared.Kind.TheVariants.{Toggle, Swap}
+use Rattle.firstmove.specs.FirstMove.{first_move}
 use Rattle.tile.specs.Tile.{State, state, refine_tile, no_progress}
 
 -- the pixels Q, in the image
@@ -33,7 +35,7 @@ pub record OnePixel (T : Tiling) (Q : Rect) : Type 0 where
 
 -- they and their neighbours
 unfoldable pub around : Tiling → Rect → Rect
-around T Q = record { x0 = Q.x0 - 1; y0 = Q.y0 - 1; x1 = min (Q.x1 + 1) T.width; y1 = min (Q.y1 + 1) T.height }
+around T Q = with_margin 1 T.width T.height Q
 
 -- a copy of the window W
 abbrev pub copied : Shared → List Float → List ℕ → Rect → State
@@ -48,7 +50,10 @@ unfoldable pub count_of : ℕ → List ℕ → ℕ
 count_of k [] = 0
 count_of k (i ∷ l) = cond (eqb i k) 1 0 + count_of k l
 
--- a move by whether as many pixels have the pixel's ink as before: a toggle takes one away
-abbrev pub told : Bool → ℕ → Float → First
-told true pixel cost = SwapAt pixel cost
-told false pixel cost = ToggleAt pixel cost
+-- the kind of a move by whether as many pixels have the pixel's ink as before: a toggle takes one away
+abbrev pub kind_of : Bool → Kind
+kind_of true = Swap
+kind_of false = Toggle
+
+abbrev pub told : Bool → ℕ → Float → Option FirstMove
+told kept pixel cost = Some (first_move pixel (kind_of kept) cost)

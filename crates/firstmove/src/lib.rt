@@ -4,83 +4,46 @@
 // `search::evaluate`, which the compiler then makes a part of it.
 #![tactic(auto)]
 
-ghost use Rattle.std.specs.Prelude.{◌≡◌, not, cond, ◌+◌, ◌-◌, ◌*◌, ◌≤◌, ◌<◌, min, eqb, length};
+ghost use Rattle.std.specs.Prelude.{◌≡◌, not, None, ◌*◌, ◌≤◌, ◌<◌, eqb, length};
 ghost use Rattle.std.specs.Float.{nan};
 ghost use Rattle.base.specs.Limits.{max_side, max_pixels};
 ghost use Rattle.base.specs.Grid.{area, crop};
 ghost use Rattle.tiling.specs.Tiling.{image};
-ghost use Rattle.search.specs.Shared.{shared, shared_of, Ready};
+ghost use Rattle.search.specs.Shared.{shared_of, Ready};
 ghost use Rattle.tile.specs.Tile.{state};
 ghost use Rattle.copy.specs.Part.{Holds};
-ghost use Rattle.firstmove.specs.Copies.{Part, Row, OnePixel, around as window, walked, count_of, told as telling};
-ghost use Rattle.firstmove.specs.FirstMove.{move_at, is_move, first_in_phase, first_in_pass};
+ghost use Rattle.firstmove.specs.Copies.{Part, Row, OnePixel, around as window, walked, count_of};
+ghost use Rattle.firstmove.specs.FirstMove.{move_at, first_in_phase, first_in_pass};
 
 use base::{Index, Rect};
 use progress::Progress;
 use search::Setup;
 use tiling::Tiling;
 
-// A pixel with the kind and the cost of its best move, or nothing.
+// The kinds of a move.
 #[derive(Clone, Copy)]
-pub enum First {
-    Nothing,
-    ToggleAt { pixel: usize, cost: f64 },
-    SwapAt { pixel: usize, cost: f64 },
+pub enum Kind {
+    Toggle,
+    Swap,
+}
+
+// A pixel with the kind and the cost of its best move.
+#[derive(Clone, Copy)]
+pub struct FirstMove {
+    pub pixel: usize,
+    pub kind: Kind,
+    pub cost: f64,
 }
 
 // Room for a copy: a row of a tile, which is at most 67 pixels wide, with the pixels around it.
 const ROOM: usize = 207;
 
-fn is_move(f: First) -> bool
-    ensures { result ≡ is_move f }
-{
-    match f {
-        First::Nothing => false,
-        First::ToggleAt { .. } => true,
-        First::SwapAt { .. } => true,
-    }
-}
-
-// The pixel's move, by whether as many pixels have its ink as before: a toggle takes one away.
-fn told(kept: bool, pixel: usize, cost: f64) -> First
-    ensures { result ≡ telling kept pixel cost }
-{
-    if kept {
-        return First::SwapAt { pixel, cost };
-    }
-    First::ToggleAt { pixel, cost }
-}
-
-fn before(x: usize) -> usize
-    ensures { result ≡ x - 1 }
-{
-    if x == 0 {
-        return 0;
-    }
-    x - 1
-}
-
-fn after(x: usize, n: usize) -> usize
-    requires { x ≤ n }
-    ensures { result ≡ min (x + 1) n }
-{
-    if x < n {
-        return x + 1;
-    }
-    n
-}
-
 // The pixels q and their neighbours.
 fn around(t: Tiling, q: Rect) -> Rect
-    requires { Part t q }
+    requires { (q.x1 ≤ max_side) × (q.y1 ≤ max_side) }
     ensures { result ≡ window t q }
 {
-    Rect {
-        x0: before(q.x0),
-        y0: before(q.y0),
-        x1: after(q.x1, t.width),
-        y1: after(q.y1, t.height),
-    }
+    q.with_margin(1, t.width, t.height)
 }
 
 // A copy of the window w.
@@ -98,77 +61,57 @@ fn fill_copy(
     ensures copy_cpe_after { copy_cpe.new ≡ crop nan 3 (image t) w cpe.now }
     ensures copy_indices_after { copy_indices.new ≡ crop 0 1 (image t) w indices.now }
 {
-    let image = tiling::image_rect(t);
-    copy::copy_cpe(cpe, image, copy_cpe, w, w);
-    copy::copy_indices(indices, image, copy_indices, w, w);
+    let image = t.image_rect();
+    copy::copy_part(3, cpe, image, copy_cpe, w, w);
+    copy::copy_part(1, indices, image, copy_indices, w, w);
 }
 
 // The walk over the pixels q, on a copy of them and their neighbours.
 fn walk_copy(
     cpe: &[f64],
     indices: &[Index],
-    pinned: &[u8],
-    inks: &[f64],
-    cpp: &[f64],
-    g: Setup,
+    s: Setup<'_>,
     w: Rect,
     q: Rect,
     copy_cpe: &mut [f64],
     copy_indices: &mut [Index],
 ) -> Progress
-    requires ready { Ready (shared_of g pinned.now inks.now cpp.now) (image g.tiling) (length cpe.now) indices.now }
-    requires part { Part g.tiling q × (w ≡ window g.tiling q) }
+    requires ready { Ready (shared_of s) (image s.tiling) (length cpe.now) indices.now }
+    requires part { Part s.tiling q × (w ≡ window s.tiling q) }
     requires copy_cpe_len { (length copy_cpe.old ≡ 3 * area w) × (length copy_indices.old ≡ area w) }
-    ensures { state copy_cpe.new copy_indices.new result ≡ walked (shared_of g pinned.now inks.now cpp.now) cpe.now indices.now q }
+    ensures { state copy_cpe.new copy_indices.new result ≡ walked (shared_of s.entry) cpe.now indices.now q }
 {
-    let t = g.tiling;
+    let t = s.tiling;
     fill_copy(cpe, indices, t, w, copy_cpe, copy_indices);
-    tile::refine_tile(copy_cpe, copy_indices, pinned, inks, cpp, g.inks, t, w, q)
+    tile::refine_tile(copy_cpe, copy_indices, s, w, q)
 }
 
 // Whether the walk over the row q accepts a move.
 fn row_moves(
     cpe: &[f64],
     indices: &[Index],
-    pinned: &[u8],
-    inks: &[f64],
-    cpp: &[f64],
-    g: Setup,
+    s: Setup<'_>,
     q: Rect,
     copy_cpe: &mut [f64],
     copy_indices: &mut [Index],
 ) -> bool
-    requires ready { Ready (shared_of g pinned.now inks.now cpp.now) (image g.tiling) (length cpe.now) indices.now }
-    requires row { Row g.tiling q }
+    requires ready { Ready (shared_of s) (image s.tiling) (length cpe.now) indices.now }
+    requires row { Row s.tiling q }
     requires copy_cpe_len { (length copy_cpe.old ≡ 621) × (length copy_indices.old ≡ 207) }
-    ensures { result ≡ not (eqb (walked (shared_of g pinned.now inks.now cpp.now) cpe.now indices.now q).progress.accepted 0) }
+    ensures { result ≡ not (eqb (walked (shared_of s.entry) cpe.now indices.now q).progress.accepted 0) }
 {
-    let w = around(g.tiling, q);
-    let from = 0;
+    let w = around(s.tiling, q);
     let n = (w.y1 - w.y0) * (w.x1 - w.x0);
-    let values = 3 * n;
     let p = walk_copy(
         cpe,
         indices,
-        pinned,
-        inks,
-        cpp,
-        g,
+        s,
         w,
         q,
-        &mut copy_cpe[from..values],
-        &mut copy_indices[from..n],
+        &mut copy_cpe[..3 * n],
+        &mut copy_indices[..n],
     );
     p.accepted != 0
-}
-
-fn one(index: Index, k: usize) -> usize
-    ensures { result ≡ cond (eqb index k) 1 0 }
-{
-    if index as usize == k {
-        return 1;
-    }
-    0
 }
 
 // How many indices are k.
@@ -177,8 +120,10 @@ fn count_ink(indices: &[Index], k: usize) -> usize
     ensures { result ≡ count_of k indices.now }
 {
     let mut n = 0;
-    for i in 0..indices.len() {
-        n = n + one(indices[i], k);
+    for i in indices {
+        if *i as usize == k {
+            n += 1;
+        }
     }
     n
 }
@@ -187,60 +132,52 @@ fn count_ink(indices: &[Index], k: usize) -> usize
 fn pixel_move(
     cpe: &[f64],
     indices: &[Index],
-    pinned: &[u8],
-    inks: &[f64],
-    cpp: &[f64],
-    g: Setup,
+    s: Setup<'_>,
     w: Rect,
     q: Rect,
     copy_cpe: &mut [f64],
     copy_indices: &mut [Index],
-) -> First
-    requires ready { Ready (shared_of g pinned.now inks.now cpp.now) (image g.tiling) (length cpe.now) indices.now }
-    requires one_pixel { OnePixel g.tiling q × (w ≡ window g.tiling q) }
+) -> Option<FirstMove>
+    requires ready { Ready (shared_of s) (image s.tiling) (length cpe.now) indices.now }
+    requires one_pixel { OnePixel s.tiling q × (w ≡ window s.tiling q) }
     requires copy_cpe_len { (length copy_cpe.old ≡ 3 * area w) × (length copy_indices.old ≡ area w) }
-    ensures { result ≡ move_at (shared_of g pinned.now inks.now cpp.now) cpe.now indices.now q.x0 q.y0 }
+    ensures { result ≡ move_at (shared_of s.entry) cpe.now indices.now q.x0 q.y0 }
 {
-    let t = g.tiling;
-    let k = search::index_at(indices, tiling::image_rect(t), q.x0, q.y0);
+    let t = s.tiling;
+    let k = search::index_at(indices, t.image_rect(), q.x0, q.y0);
     fill_copy(cpe, indices, t, w, copy_cpe, copy_indices);
     let ink = count_ink(copy_indices, k);
-    let p = walk_copy(
-        cpe,
-        indices,
-        pinned,
-        inks,
-        cpp,
-        g,
-        w,
-        q,
-        copy_cpe,
-        copy_indices,
-    );
+    let p = walk_copy(cpe, indices, s, w, q, copy_cpe, copy_indices);
     if p.accepted == 0 {
-        return First::Nothing;
+        return None;
     }
-    let kept = count_ink(copy_indices, k) == ink;
-    told(kept, q.y0 * t.width + q.x0, p.delta)
+    // A toggle takes a pixel of the ink away.
+    let kind = if count_ink(copy_indices, k) == ink {
+        Kind::Swap
+    } else {
+        Kind::Toggle
+    };
+    Some(FirstMove {
+        pixel: q.y0 * t.width + q.x0,
+        kind,
+        cost: p.delta,
+    })
 }
 
 // The move of pixel (x, y), unless it is pinned or stays.
 fn move_at(
     cpe: &[f64],
     indices: &[Index],
-    pinned: &[u8],
-    inks: &[f64],
-    cpp: &[f64],
-    g: Setup,
+    s: Setup<'_>,
     x: usize,
     y: usize,
     copy_cpe: &mut [f64],
     copy_indices: &mut [Index],
-) -> First
-    requires ready { Ready (shared_of g pinned.now inks.now cpp.now) (image g.tiling) (length cpe.now) indices.now }
-    requires x_lt_width { (x < g.tiling.width) × (y < g.tiling.height) }
+) -> Option<FirstMove>
+    requires ready { Ready (shared_of s) (image s.tiling) (length cpe.now) indices.now }
+    requires x_lt_width { (x < s.tiling.width) × (y < s.tiling.height) }
     requires copy_cpe_len { (length copy_cpe.old ≡ 621) × (length copy_indices.old ≡ 207) }
-    ensures { result ≡ move_at (shared_of g pinned.now inks.now cpp.now) cpe.now indices.now x y }
+    ensures { result ≡ move_at (shared_of s.entry) cpe.now indices.now x y }
 {
     let q = Rect {
         x0: x,
@@ -248,21 +185,16 @@ fn move_at(
         x1: x + 1,
         y1: y + 1,
     };
-    let w = around(g.tiling, q);
-    let from = 0;
+    let w = around(s.tiling, q);
     let n = (w.y1 - w.y0) * (w.x1 - w.x0);
-    let values = 3 * n;
     pixel_move(
         cpe,
         indices,
-        pinned,
-        inks,
-        cpp,
-        g,
+        s,
         w,
         q,
-        &mut copy_cpe[from..values],
-        &mut copy_indices[from..n],
+        &mut copy_cpe[..3 * n],
+        &mut copy_indices[..n],
     )
 }
 
@@ -271,25 +203,22 @@ fn move_at(
 fn first_in_phase(
     cpe: &[f64],
     indices: &[Index],
-    pinned: &[u8],
-    inks: &[f64],
-    cpp: &[f64],
-    g: Setup,
+    s: Setup<'_>,
     phase: usize,
     copy_cpe: &mut [f64],
     copy_indices: &mut [Index],
-) -> First
-    requires ready { Ready (shared_of g pinned.now inks.now cpp.now) (image g.tiling) (length cpe.now) indices.now }
+) -> Option<FirstMove>
+    requires ready { Ready (shared_of s) (image s.tiling) (length cpe.now) indices.now }
     requires copy_cpe_len { (length copy_cpe.old ≡ 621) × (length copy_indices.old ≡ 207) }
-    ensures { result ≡ first_in_phase (shared_of g pinned.now inks.now cpp.now) cpe.now indices.now phase First.Nothing }
+    ensures { result ≡ first_in_phase (shared_of s.entry) cpe.now indices.now phase None }
 {
-    let t = g.tiling;
-    let mut first = First::Nothing;
-    'tiles: for tile in 0..tiling::tile_count(t) {
-        if !tiling::is_in_phase(t, phase, tile) {
+    let t = s.tiling;
+    let mut first = None;
+    'tiles: for tile in 0..t.tile_count() {
+        if !t.is_in_phase(phase, tile) {
             continue 'tiles;
         }
-        let q = tiling::tile_rect(t, tile);
+        let q = t.tile_rect(tile);
         'rows: for y in q.y0..q.y1 {
             let row = Rect {
                 x0: q.x0,
@@ -297,33 +226,12 @@ fn first_in_phase(
                 x1: q.x1,
                 y1: y + 1,
             };
-            if !row_moves(
-                cpe,
-                indices,
-                pinned,
-                inks,
-                cpp,
-                g,
-                row,
-                copy_cpe,
-                copy_indices,
-            ) {
+            if !row_moves(cpe, indices, s, row, copy_cpe, copy_indices) {
                 continue 'rows;
             }
             'columns: for x in q.x0..q.x1 {
-                let here = move_at(
-                    cpe,
-                    indices,
-                    pinned,
-                    inks,
-                    cpp,
-                    g,
-                    x,
-                    y,
-                    copy_cpe,
-                    copy_indices,
-                );
-                if is_move(here) {
+                let here = move_at(cpe, indices, s, x, y, copy_cpe, copy_indices);
+                if here.is_some() {
                     first = here;
                     break 'tiles;
                 }
@@ -337,63 +245,29 @@ fn first_in_phase(
 fn first_in_phases(
     cpe: &[f64],
     indices: &[Index],
-    pinned: &[u8],
-    inks: &[f64],
-    cpp: &[f64],
-    g: Setup,
+    s: Setup<'_>,
     copy_cpe: &mut [f64],
     copy_indices: &mut [Index],
-) -> First
-    requires ready { Ready (shared_of g pinned.now inks.now cpp.now) (image g.tiling) (length cpe.now) indices.now }
+) -> Option<FirstMove>
+    requires ready { Ready (shared_of s) (image s.tiling) (length cpe.now) indices.now }
     requires copy_cpe_len { (length copy_cpe.old ≡ 621) × (length copy_indices.old ≡ 207) }
-    ensures { result ≡ first_in_pass (shared_of g pinned.now inks.now cpp.now) cpe.now indices.now }
+    ensures { result ≡ first_in_pass (shared_of s.entry) cpe.now indices.now }
 {
     for phase in 0..4 {
-        let first = first_in_phase(
-            cpe,
-            indices,
-            pinned,
-            inks,
-            cpp,
-            g,
-            phase,
-            copy_cpe,
-            copy_indices,
-        );
-        if is_move(first) {
+        let first = first_in_phase(cpe, indices, s, phase, copy_cpe, copy_indices);
+        if first.is_some() {
             return first;
         }
     }
-    First::Nothing
+    None
 }
 
 // The first of the four phases of a pass.
-pub fn first_in_pass(
-    cpe: &[f64],
-    indices: &[Index],
-    pinned: &[u8],
-    inks: &[f64],
-    cpp: &[f64],
-    count: usize,
-    t: Tiling,
-) -> First
-    requires { Ready (shared t count pinned.now inks.now cpp.now) (image t) (length cpe.now) indices.now }
-    ensures { result ≡ first_in_pass (shared t count pinned.now inks.now cpp.now) cpe.now indices.now }
+pub fn first_in_pass(cpe: &[f64], indices: &[Index], s: Setup<'_>) -> Option<FirstMove>
+    requires { Ready (shared_of s) (image s.tiling) (length cpe.now) indices.now }
+    ensures { result ≡ first_in_pass (shared_of s.entry) cpe.now indices.now }
 {
-    let g = Setup {
-        tiling: t,
-        inks: count,
-    };
     let mut copy_cpe = [0.0f64; 3 * ROOM];
     let mut copy_indices = [0u8; ROOM];
-    first_in_phases(
-        cpe,
-        indices,
-        pinned,
-        inks,
-        cpp,
-        g,
-        &mut copy_cpe,
-        &mut copy_indices,
-    )
+    first_in_phases(cpe, indices, s, &mut copy_cpe, &mut copy_indices)
 }

@@ -35,25 +35,13 @@ pub fn is_palette(palette_len: usize) -> bool
     palette_len % 3 == 0 && is_within(1, palette_len as u64 / 3, MAX_INKS as u64)
 }
 
-fn wide(b: u8) -> usize
-    ensures { result ≡ b }
-{
-    b as usize
-}
-
-fn larger(a: u8, b: u8) -> u8
-    ensures { result ≡ max a b }
-{
-    if a < b { b } else { a }
-}
-
 // The largest of the bytes, 0 of none.
 fn largest(bytes: &[u8]) -> u8
     ensures { result ≡ largest_of bytes.now }
 {
-    let mut most = 0;
-    for i in 0..bytes.len() {
-        most = larger(most, bytes[i]);
+    let mut most = 0u8;
+    for b in bytes {
+        most = most.max(*b);
     }
     most
 }
@@ -61,7 +49,7 @@ fn largest(bytes: &[u8]) -> u8
 fn largest_of(a: u8, b: u8, c: u8, d: u8) -> u8
     ensures { result ≡ max (max a b) (max c d) }
 {
-    larger(larger(a, b), larger(c, d))
+    a.max(b).max(c.max(d))
 }
 
 // The largest of the bytes of four lists of one length: every byte is read and no branch taken, so that the compiler takes
@@ -70,9 +58,10 @@ fn largest_of_four(a: &[u8], b: &[u8], c: &[u8], d: &[u8]) -> u8
     requires { (length b.now ≡ length a.now) × (length c.now ≡ length a.now) × (length d.now ≡ length a.now) }
     ensures { result ≡ largest_of_four a.now b.now c.now d.now }
 {
-    let mut most = 0;
+    let mut most = 0u8;
+    // Kept: four lists side by side by their places are read sixteen bytes at once, and four zips are no plainer.
     for i in 0..a.len() {
-        most = larger(most, largest_of(a[i], b[i], c[i], d[i]));
+        most = most.max(largest_of(a[i], b[i], c[i], d[i]));
     }
     most
 }
@@ -87,34 +76,26 @@ fn largest_by_quarters(bytes: &[u8]) -> u8
     let c = b + k;
     let d = c + k;
     let quarters = largest_of_four(&bytes[0..k], &bytes[k..b], &bytes[b..c], &bytes[c..d]);
-    larger(quarters, largest(&bytes[d..bytes.len()]))
-}
-
-// Place i where its byte b is not below n, or the place known so far.
-fn nearer(place: usize, i: usize, b: u8, n: usize) -> usize
-    ensures { (n ≤ b → result ≡ i) × (b < n → result ≡ place) }
-{
-    if wide(b) >= n { i } else { place }
+    quarters.max(largest(&bytes[d..]))
 }
 
 // The place of the first byte that is not below n, or the length, byte by byte.
 fn place_not_below(bytes: &[u8], n: usize) -> usize
     ensures { result ≡ first_not_below n bytes.now }
 {
-    let mut place = bytes.len();
-    let mut i = 0;
-    while i < place {
-        place = nearer(place, i, bytes[i], n);
-        i += 1;
+    for (i, b) in bytes.iter().enumerate() {
+        if usize::from(*b) >= n {
+            return i;
+        }
     }
-    place
+    bytes.len()
 }
 
 // The same. Most lists have none: the place is searched where the largest byte is not below n.
 fn first_not_below(bytes: &[u8], n: usize) -> usize
     ensures { result ≡ first_not_below n bytes.now }
 {
-    if wide(largest_by_quarters(bytes)) < n {
+    if usize::from(largest_by_quarters(bytes)) < n {
         return bytes.len();
     }
     place_not_below(bytes, n)

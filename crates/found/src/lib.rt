@@ -1,25 +1,20 @@
-// What dbs_find_move answers: by cases, and as the struct that hosts read.
+// What dbs_find_move answers, as the struct that hosts read.
 #![tactic(auto)]
 
 ghost use Rattle.std.specs.Prelude.{◌≡◌};
-ghost use Rattle.found.specs.Found.{refused_of, searched_of, found_of};
+ghost use Rattle.found.specs.Found.{kind_number, searched_of, answer_of};
 
-use base::Status;
-use firstmove::First;
-
-#[derive(Clone, Copy)]
-pub enum Answer {
-    Refused(Status),
-    Searched(First),
-}
+use base::{Refusal, Status};
+use firstmove::{FirstMove, Kind};
 
 // Kinds of a move.
 const TOGGLE: u64 = 0;
 
 const SWAP: u64 = 1;
 
+// Kept: C reads numbers here, so that it is no `Result` of an `Option`, and a kind no enum.
 #[repr(C)]
-#[derive(Clone, Copy)]
+#[derive(Clone, Copy, Default)]
 pub struct DbsFound {
     pub number: u64,
     pub place: u64,
@@ -31,55 +26,46 @@ pub struct DbsFound {
     pub cost: f64,
 }
 
-fn refused(s: Status) -> DbsFound
-    ensures { result ≡ refused_of s }
+fn kind_number(kind: Kind) -> u64
+    ensures { result ≡ kind_number kind }
 {
-    DbsFound {
-        number: s.number,
-        place: s.place,
-        found: 0,
-        pixel: 0,
-        kind: 0,
-        cost: 0.0,
+    match kind {
+        Kind::Toggle => TOGGLE,
+        Kind::Swap => SWAP,
     }
 }
 
-fn searched(f: First) -> DbsFound
-    ensures { result ≡ searched_of f }
-{
-    match f {
-        First::Nothing => DbsFound {
-            number: 0,
-            place: 0,
-            found: 0,
-            pixel: 0,
-            kind: 0,
-            cost: 0.0,
-        },
-        First::ToggleAt { pixel, cost } => DbsFound {
-            number: 0,
-            place: 0,
-            found: 1,
-            pixel: pixel as u64,
-            kind: TOGGLE,
-            cost,
-        },
-        First::SwapAt { pixel, cost } => DbsFound {
-            number: 0,
-            place: 0,
-            found: 1,
-            pixel: pixel as u64,
-            kind: SWAP,
-            cost,
-        },
+impl From<Option<FirstMove>> for DbsFound {
+    ghost from_gives = { λ f a. a ≡ searched_of f };
+
+    fn from(f: Option<FirstMove>) -> DbsFound {
+        match f {
+            Some(m) => DbsFound {
+                found: 1,
+                pixel: m.pixel as u64,
+                kind: kind_number(m.kind),
+                cost: m.cost,
+                ..DbsFound::default()
+            },
+            None => DbsFound::default(),
+        }
     }
 }
 
-pub fn found(a: Answer) -> DbsFound
-    ensures { result ≡ found_of a }
-{
-    match a {
-        Answer::Refused(s) => refused(s),
-        Answer::Searched(f) => searched(f),
+impl From<Result<Option<FirstMove>, Refusal>> for DbsFound {
+    ghost from_gives = { λ r a. a ≡ answer_of r };
+
+    fn from(r: Result<Option<FirstMove>, Refusal>) -> DbsFound {
+        match r {
+            Ok(found) => DbsFound::from(found),
+            Err(refusal) => {
+                let Status { number, place } = Status::from(refusal);
+                DbsFound {
+                    number,
+                    place,
+                    ..DbsFound::default()
+                }
+            }
+        }
     }
 }

@@ -1,72 +1,113 @@
-// What a line of compare/replay.txt gives to a run, read into one buffer of bytes, and buffers written as checksums, in that
-// file's form. In a line, numbers from 0 count its words.
+// What a line of compare/replay.txt gives to a run, and the buffers that runs are lent. In a line, numbers from 0 count its
+// words.
 #![tactic(auto)]
 
-use base::Status;
-use std::io::{self, Print};
+use base::Index;
+use lines::Line;
 
-// Room for 16,384 of each, and where it begins.
+// Room for so many bytes of each kind.
 const ROOM: usize = 16384;
 
-const PALETTE: usize = 16384;
-
-pub const PINNED: usize = 32768;
-
-pub const INDICES: usize = 49152;
-
-// How many bytes of each a line has.
+// What a line gives to a run.
 #[derive(Clone, Copy)]
-pub struct Given {
-    pixels: usize,
-    palette: usize,
-    pinned: usize,
-    indices: usize,
+pub struct Given<'a> {
+    pub width: u64,
+    pub height: u64,
+    pub max_passes: u64,
+    pub ppi: f64,
+    pub viewing_distance_cm: f64,
+    pub pixels: &'a [u8],
+    pub palette: &'a [u8],
+    pub pinned: &'a [u8],
+    pub indices: &'a [Index],
 }
 
-// Reads what a run is given, words 6 to 9.
-pub fn read_given(line: &[u8], given: &mut [u8]) -> Given {
-    let pixels = lines::read(line, 6, given, 0, ROOM);
-    let palette = lines::read(line, 7, given, PALETTE, ROOM);
-    let pinned = lines::read(line, 8, given, PINNED, ROOM);
-    let indices = lines::read(line, 9, given, INDICES, ROOM);
-    Given {
-        pixels,
-        palette,
-        pinned,
-        indices,
+// Where the bytes lie that a line gives.
+#[derive(Drop)]
+pub struct Store {
+    pub pixels: [u8; ROOM],
+    pub palette: [u8; ROOM],
+    pub pinned: [u8; ROOM],
+    pub indices: [Index; ROOM],
+}
+
+impl Store {
+    // Each cell is set.
+    pub fn new() -> Store {
+        Store {
+            pixels: [255; ROOM],
+            palette: [255; ROOM],
+            pinned: [255; ROOM],
+            indices: [255; ROOM],
+        }
+    }
+
+    // Reads what a line gives, words 1 to 9.
+    pub fn read<'a>(&'a mut self, line: Line<'_>) -> Given<'a> {
+        let Store {
+            pixels,
+            palette,
+            pinned,
+            indices,
+        } = self;
+        Given {
+            width: line.number(1),
+            height: line.number(2),
+            max_passes: line.number(3),
+            ppi: line.float(4),
+            viewing_distance_cm: line.float(5),
+            pixels: line.bytes(6, pixels),
+            palette: line.bytes(7, palette),
+            pinned: line.bytes(8, pinned),
+            indices: line.bytes(9, indices),
+        }
     }
 }
 
-pub fn pixels(given: &[u8], g: Given) -> &[u8] {
-    lines::seen_span(given, 0, g.pixels)
+// The buffers that a run is lent, with room for so many numbers in `cpe`.
+#[derive(Drop)]
+pub struct Lent<const CPE: usize> {
+    pub store: Store,
+    pub cpe: [f64; CPE],
+    pub cpp: [f64; 8500],
+    pub counts: [u32; 1024],
+    pub inks: [f64; 1024],
 }
 
-pub fn palette(given: &[u8], g: Given) -> &[u8] {
-    lines::seen_span(given, PALETTE, g.palette)
+impl<const CPE: usize> Lent<CPE> {
+    // Each cell is set.
+    pub fn new() -> Lent<CPE> {
+        Lent {
+            store: Store::new(),
+            cpe: [-1.0; CPE],
+            cpp: [-1.0; 8500],
+            counts: [4294967295; 1024],
+            inks: [-1.0; 1024],
+        }
+    }
 }
 
-pub fn pinned(given: &[u8], g: Given) -> &[u8] {
-    lines::seen_span(given, PINNED, g.pinned)
+// The buffers of a job.
+#[derive(Drop)]
+pub struct Job {
+    pub lent: Lent<1024>,
+    pub states: [u8; 64],
+    pub deltas: [f64; 64],
+    pub record: [u64; 16],
+    pub copy_cpe: [f64; 3072],
+    pub copy_indices: [Index; 1024],
 }
 
-pub fn indices(given: &[u8], g: Given) -> &[u8] {
-    lines::seen_span(given, INDICES, g.indices)
-}
-
-pub fn print_status(rt: &impl Print, name: &[u8], s: Status) -> io::Result<()> {
-    rt.write_all(name)?;
-    lines::print_number(rt, s.number)?;
-    lines::print_number(rt, s.place)
-}
-
-pub fn print_floats(rt: &impl Print, values: &[f64]) -> io::Result<()> {
-    lines::print_sum(rt, checksum::floats(0, values))
-}
-
-pub fn print_bytes(rt: &impl Print, values: &[u8]) -> io::Result<()> {
-    lines::print_sum(rt, checksum::bytes(values))
-}
-
-pub fn print_words(rt: &impl Print, values: &[u64]) -> io::Result<()> {
-    lines::print_sum(rt, checksum::words(values))
+impl Job {
+    // Each cell is set.
+    pub fn new() -> Job {
+        Job {
+            lent: Lent::new(),
+            states: [255; 64],
+            deltas: [-1.0; 64],
+            record: [0xffff_ffff_ffff_ffff; 16],
+            copy_cpe: [-1.0; 3072],
+            copy_indices: [255; 1024],
+        }
+    }
 }

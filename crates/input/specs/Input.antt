@@ -3,10 +3,9 @@
 -- are 1, 2 and 8.
 use Rattle.std.specs.Prelude.{ℕ, ◌*◌, ◌/◌, not, List, [], ◌∷◌, ◌++◌, ltb, eqb, length}
 use Rattle.base.specs.Limits.{max_passes, cpp_length}
-use Rattle.base.specs.Refusal.{Test, test, judge}
+use Rattle.base.specs.Refusal.{Test, test}
 use Rattle.eye.specs.declared.DbsParams.{DbsParams}
-use Rattle.eye.specs.declared.Eye.{Eye}
-use Rattle.eye.specs.Eye.{eye_tests, with_radii}
+use Rattle.eye.specs.Eye.{eye_tests}
 use Rattle.fits.specs.Fits.{size_fits, mask_fits, palette_fits, first_unnamed, first_above_one}
 
 -- Document 01's plane with its pixels, palette, indices and pin mask, and the eye record. Measuring has no mask: here an empty one.
@@ -64,10 +63,6 @@ image_tests w h pixels palette indices pinned = size_test w h ∷ picture_test (
 unfoldable pub input_tests : Input → List Test
 input_tests I = image_tests I.width I.height (length I.pixels) (length I.palette) I.indices I.pinned ++ eye_tests I.params
 
--- their judgement, and both kernel radii where it accepts
-unfoldable pub checked_of : Input → Eye
-checked_of I = with_radii (judge (input_tests I)) I.params
-
 -- ---- rows 10 and 11: a run and the buffers lent to it
 
 -- row 10: 'passes above 1,000'
@@ -79,32 +74,32 @@ abbrev pub length_test : ℕ → ℕ → ℕ → Test
 length_test buffer len wanted = test (not (eqb len wanted)) 11 buffer
 
 -- Rows 10 and 11 as far as refine and open share them, of the passes allowed and the lengths of `cpe` (document 01's field), `cpp` (its
--- kernel store) and `accepted_per_pass` (its counts). How long `cpe` is to be is an argument here, `cpeWanted`.
+-- kernel store) and `accepted_per_pass` (its counts). How long `cpe` is to be is an argument here, `cpe_wanted`.
 unfoldable pub run_tests : ℕ → ℕ → ℕ → ℕ → ℕ → List Test
-run_tests passes cpeWanted cpe cpp counts =
+run_tests passes cpe_wanted cpe cpp counts =
     passes_test passes
-    ∷ length_test 1 cpe cpeWanted  -- '1 field'
+    ∷ length_test 1 cpe cpe_wanted  -- '1 field'
     ∷ length_test 2 cpp cpp_length  -- '2 kernels'
     ∷ length_test 3 counts passes  -- '3 counts'
     ∷ []
 
 -- rows 10 and 11 of refine: '8 ink values' besides
 unfoldable pub refine_run_tests : ℕ → ℕ → ℕ → ℕ → ℕ → ℕ → ℕ → List Test
-refine_run_tests passes cpeWanted inksWanted cpe cpp counts inks = run_tests passes cpeWanted cpe cpp counts ++ (length_test 8 inks inksWanted ∷ [])
+refine_run_tests passes cpe_wanted inks_wanted cpe cpp counts inks = run_tests passes cpe_wanted cpe cpp counts ++ (length_test 8 inks inks_wanted ∷ [])
 
 -- rows 10 and 11 of open: '4 ledger' (the tile states), '5 deltas' and '8 ink values' besides; how many tiles an image has is the crate
 -- tiling's to say
 unfoldable pub open_run_tests : ℕ → ℕ → ℕ → ℕ → ℕ → ℕ → ℕ → ℕ → ℕ → ℕ → List Test
-open_run_tests passes cpeWanted inksWanted tiles cpe cpp counts states deltas inks =
-    run_tests passes cpeWanted cpe cpp counts
+open_run_tests passes cpe_wanted inks_wanted tiles cpe cpp counts states deltas inks =
+    run_tests passes cpe_wanted cpe cpp counts
     ++ (length_test 4 states tiles
     ∷ length_test 5 deltas tiles
-    ∷ length_test 8 inks inksWanted
+    ∷ length_test 8 inks inks_wanted
     ∷ [])
 
 -- row 11 of find_move, which is given no passes and no counts: '1 field', '2 kernels' and '8 ink values' (document 02, F-1: 'less passes, counts, ledger and deltas')
 unfoldable pub find_run_tests : ℕ → ℕ → ℕ → ℕ → ℕ → List Test
-find_run_tests cpeWanted inksWanted cpe cpp inks = length_test 1 cpe cpeWanted ∷ length_test 2 cpp cpp_length ∷ length_test 8 inks inksWanted ∷ []
+find_run_tests cpe_wanted inks_wanted cpe cpp inks = length_test 1 cpe cpe_wanted ∷ length_test 2 cpp cpp_length ∷ length_test 8 inks inks_wanted ∷ []
 
 -- ---- all rows of a call: 'Field: 3n f64', 'ink values (3 f64 per ink)'
 

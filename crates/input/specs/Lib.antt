@@ -1,3 +1,4 @@
 pub mod Input
+pub mod Inputs
 pub mod Valid
 pub mod Rows

@@ -4,82 +4,68 @@
 // (specs/Valid.antt, proofs/Validity.antt).
 #![tactic(auto)]
 
-ghost use Rattle.std.specs.Prelude.{◌≡◌};
-ghost use Rattle.base.specs.Refusal.{next, judge_from};
-ghost use Rattle.input.specs.Input.{halftone_tests, image_tests, input, checked_of, length_test};
+ghost use Rattle.std.specs.Prelude.{◌≡◌, true, false, IfOk, IfErr, length};
+ghost use Rattle.base.specs.Refusal.{judge};
+ghost use Rattle.base.specs.Answer.{number_of, status_of, Tested};
+ghost use Rattle.eye.specs.Eye.{eye_of};
+ghost use Rattle.input.specs.Input.{halftone_tests, image_tests, input_tests, length_test};
 
-use base::{Index, Status};
+use base::{Buffer, Index, Refusal, refuse_if};
 use eye::{DbsParams, Eye};
 
-// Refusals 3, 4, 17, 5 and 6, of an image of n pixels.
-fn check_halftone(
-    s: Status,
-    n: usize,
-    palette_len: usize,
-    indices: &[Index],
-    pinned: &[u8],
-) -> Status
-    ensures { result ≡ judge_from s (halftone_tests n palette_len indices.now pinned.now) }
-{
-    let mask_fits = fits::is_mask(pinned.len(), n);
-    let above = fits::first_above_one(pinned);
-    let palette_fits = fits::is_palette(palette_len);
-    let unnamed = fits::first_unnamed(indices, palette_len / 3);
-    let s1 = base::next(s, indices.len() != n, 3, 0);
-    let s2 = base::next(s1, !mask_fits, 4, 0);
-    let s3 = base::next(s2, above < pinned.len(), 17, above as u64);
-    let s4 = base::next(s3, !palette_fits, 5, 0);
-    base::next(s4, unnamed < indices.len(), 6, unnamed as u64)
+// What refine, measure, find_move and open are given: an image, a palette, a halftone, its pin mask and the eye. Measuring lends an empty mask.
+#[derive(Clone, Copy)]
+pub struct Input<'a> {
+    pub width: u64,
+    pub height: u64,
+    pub pixels: &'a [u8],
+    pub palette: &'a [u8],
+    pub indices: &'a [Index],
+    pub pinned: &'a [u8],
+    pub params: DbsParams,
 }
 
-// Refusals 1 to 6, with 17 after 4.
-fn check_image(
-    s: Status,
-    width: u64,
-    height: u64,
-    pixels_len: usize,
-    palette_len: usize,
-    indices: &[Index],
-    pinned: &[u8],
-) -> Status
-    ensures { result ≡ judge_from s (image_tests width height pixels_len palette_len indices.now pinned.now) }
-{
-    let s1 = base::next(s, !fits::is_size(width, height), 1, 0);
-    if s1.number != 0 {
-        return s1;
+impl<'a> Input<'a> {
+    ghost use Rattle.input.specs.Inputs.{input_of};
+
+    // Refusals 3, 4, 17, 5 and 6, where the image has n pixels.
+    #[tactic(auto, unfolding(crate::specs::Input::halftone_tests, base::specs::Refusal::judge))]
+    fn check_halftone(self, n: usize) -> Result<(), Refusal>
+        ensures { status_of result ≡ judge (halftone_tests n (length self.entry.palette.now) self.entry.indices.now self.entry.pinned.now) }
+    {
+        refuse_if(self.indices.len() != n, Refusal::Indices)?;
+        refuse_if(!fits::is_mask(self.pinned.len(), n), Refusal::Mask)?;
+        let above = fits::first_above_one(self.pinned);
+        refuse_if(above < self.pinned.len(), Refusal::MaskByte(above as u64))?;
+        refuse_if(!fits::is_palette(self.palette.len()), Refusal::Palette)?;
+        let unnamed = fits::first_unnamed(self.indices, self.palette.len() / 3);
+        refuse_if(unnamed < self.indices.len(), Refusal::Index(unnamed as u64))
     }
-    let n = height as usize * width as usize;
-    let s2 = base::next(s1, pixels_len != 3 * n, 2, 0);
-    check_halftone(s2, n, palette_len, indices, pinned)
+
+    // Refusals 1 to 6, with 17 after 4.
+    #[tactic(auto, unfolding(crate::specs::Input::image_tests, base::specs::Refusal::judge))]
+    fn check_image(self) -> Result<(), Refusal>
+        ensures { status_of result ≡ judge (image_tests self.entry.width self.entry.height (length self.entry.pixels.now) (length self.entry.palette.now) self.entry.indices.now self.entry.pinned.now) }
+    {
+        refuse_if(!fits::is_size(self.width, self.height), Refusal::Size)?;
+        let n = self.height as usize * self.width as usize;
+        refuse_if(self.pixels.len() != 3 * n, Refusal::Pixels)?;
+        self.check_halftone(n)
+    }
+
+    // Refusals 1 to 9, with 17 after 4, and both kernel radii where none applies.
+    pub fn check(self) -> Result<Eye, Refusal>
+        ensures { Tested result (input_tests (input_of self.entry)) (eye_of self.entry.params) }
+    {
+        self.check_image()?;
+        self.params.validate()
+    }
 }
 
-// Refusals 1 to 9, with 17 after 4, and both kernel radii where none applies. Measuring lends an empty mask.
-pub fn check_input(
-    width: u64,
-    height: u64,
-    pixels: &[u8],
-    palette: &[u8],
-    indices: &[Index],
-    pinned: &[u8],
-    params: DbsParams,
-) -> Eye
-    ensures { result ≡ checked_of (input width height pixels.now palette.now indices.now pinned.now params) }
+// A line of refusal 11: a buffer that is not as long as it is to be.
+pub fn check_length(buffer: Buffer, len: usize, wanted: usize) -> Result<(), Refusal>
+    ensures passes { IfOk result (λ _. (length_test (number_of buffer) len wanted).fails ≡ false) }
+    ensures fails { IfErr result (λ e. ((length_test (number_of buffer) len wanted).fails ≡ true) × (e ≡ Refusal.Length buffer)) }
 {
-    let image = check_image(
-        base::ok(),
-        width,
-        height,
-        pixels.len(),
-        palette.len(),
-        indices,
-        pinned,
-    );
-    eye::check_eye(image, params)
-}
-
-// The next line of refusal 11.
-pub fn next_length(s: Status, buffer: u64, len: usize, wanted: usize) -> Status
-    ensures { result ≡ next s (length_test buffer len wanted) }
-{
-    base::next(s, len != wanted, 11, buffer)
+    refuse_if(len != wanted, Refusal::Length(buffer))
 }

@@ -7,6 +7,7 @@ use mathlib.Core.List.{List, [], ◌∷◌}
 use lib.ListN.{length, take}
 use lib.Seq.{take-append_seam}
 use lib.Ieee.{Float}
+use Rattle.std.specs.Prelude.{Option}
 use Rattle.base.specs.Limits.{cpp_length}
 use Rattle.base.specs.declared.Status.{Status}
 use Rattle.base.specs.Loop.{overwrite}
@@ -20,9 +21,8 @@ use Rattle.prepare.specs.Prepare.{tiling_of, cpp_of, cpe_of, error_of, run_one}
 use Rattle.prepare.specs.SameKernels.{SameKernels}
 use Rattle.prepare.proofs.SameKernels.{tile_same, same_kernels, same_cpe, same_error, same_run}
 use Rattle.refine.specs.Refine.{refinement, refused_stats, refine_accepted, refine_of}
-use Rattle.firstmove.specs.declared.First.{First}
-use Rattle.found.specs.declared.Answer.TheVariants.{Searched}
-use Rattle.found.specs.Found.{found_of}
+use Rattle.firstmove.specs.declared.FirstMove.{FirstMove}
+use Rattle.found.specs.Found.{searched_of}
 use Rattle.findmove.specs.FindMove.{search_accepted, found, refused, find_of}
 use Rattle.findmove.proofs.SameFirst.{same_first}
 use Rattle.job.specs.Record.{job_shared}
@@ -82,7 +82,7 @@ module _ (I : Input) (cpp cpp' : List Float) where
   searched_alike : judge (input_tests I) ≡ accepted → length cpp ≡ cpp_length → length cpp' ≡ cpp_length → FindsAlike (tiling_of I) (found (search_accepted I cpp)) (found (search_accepted I cpp'))
   unfolding search_accepted
   searched_alike ok room room' = record {
-    answer = ap (λ (f : First). found_of (Searched f)) (same_first I ok cpp cpp' room room');
+    answer = ap searched_of (same_first I ok cpp cpp' room room');
     left = λ z. record { cpe = same_cpe I ok cpp cpp' room room'; kernels = same_kernels I ok cpp cpp' room room'; inks = refl };
   }
 
@@ -92,7 +92,6 @@ module _ (I : Input) (cpp cpp' : List Float) where
 
     found_alike : (t : Bool) → is_accepted find_verdict ≡ t → FindsAlike (tiling_of I)
         (cond t (found (search_accepted I cpp)) (refused find_verdict cpe cpp inks)) (cond t (found (search_accepted I cpp')) (refused find_verdict cpe' cpp' inks'))
-    unfolding found_of
     found_alike true e =
         let v = (find_valid_iff I _ _ _).0 (accepted_is find_verdict e) in
         searched_alike ((valid_iff I).1 v.valid) (b ∙ v.cpp_len) v.cpp_len

@@ -4,7 +4,7 @@
 #![tactic(auto)]
 
 ghost use Rattle.std.specs.Prelude.{◌≡◌};
-ghost use Rattle.job.specs.Record.{byte_of};
+ghost use Rattle.job.specs.Record.{byte_of, state_of};
 
 use tiling::Tiling;
 
@@ -36,9 +36,36 @@ pub struct JobRecord {
 }
 
 // What `tile_states` holds of a tile: it waits for a worker, is with one, or is back.
-#[derive(Clone, Copy)]
+#[derive(Clone, Copy, PartialEq, Eq)]
 pub enum TileState {
     Waiting,
     Out,
     Back,
+}
+
+// The byte that a call writes of a tile.
+impl From<TileState> for u8 {
+    ghost from_gives = { λ state byte. byte ≡ byte_of state };
+
+    fn from(state: TileState) -> u8 {
+        match state {
+            TileState::Waiting => 0,
+            TileState::Out => 1,
+            TileState::Back => 2,
+        }
+    }
+}
+
+// What a byte says of its tile.
+impl From<u8> for TileState {
+    ghost from_gives = { λ byte state. state ≡ state_of byte };
+
+    #[tactic(auto, unfolding(crate::specs::Record::state_of))]
+    fn from(byte: u8) -> TileState {
+        match byte {
+            0 => TileState::Waiting,
+            1 => TileState::Out,
+            2.. => TileState::Back,
+        }
+    }
 }

@@ -19,10 +19,7 @@ fn overlap_from(r: usize, o: usize) -> usize
     requires { r ≤ 16 }
     ensures { result ≡ overlap_from r o }
 {
-    if o < 2 * r {
-        return 2 * r - o;
-    }
-    0
+    (2 * r).saturating_sub(o)
 }
 
 // .. and the one past the last.
@@ -30,12 +27,7 @@ fn overlap_to(r: usize, o: usize) -> usize
     requires { (r ≤ 16) × (o < kernel_side (2 * r)) }
     ensures { result ≡ overlap_to r o }
 {
-    let radius = 2 * r;
-    let end = 2 * radius + 1 - o;
-    if radius + 1 < end {
-        return radius + 1;
-    }
-    end
+    (2 * r + 1).min(4 * r + 1 - o)
 }
 
 // Adds to `from` the terms of c(d) in row y of p; d stands in column i, row j of c.
@@ -74,8 +66,8 @@ pub fn autocorrelate(p: &[f64], r: usize, c: &mut [f64])
 {
     let radius = 2 * r;
     let size = 2 * radius + 1;
-    for k in 0..c.len() {
-        c[k] = correlation(p, r, k % size, k / size);
+    for (k, value) in c.iter_mut().enumerate() {
+        *value = correlation(p, r, k % size, k / size);
     }
 }
 

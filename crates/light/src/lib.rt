@@ -6,11 +6,11 @@
 #![tactic(auto)]
 
 ghost use Rattle.std.specs.Prelude.{◌≡◌};
-ghost use Rattle.light.specs.Lut.{srgb_to_linear, linear};
+ghost use Rattle.light.specs.Lut.{linear};
 ghost use Rattle.light.specs.Transfer.{Rule};
 
 // The linear light of each sRGB byte (IEC 61966-2-1), as the bits of an f64: document 01's light table.
-const SRGB_TO_LINEAR: [u64; 256] = [
+static SRGB_TO_LINEAR: [u64; 256] = [
     0x0000000000000000,
     0x3f33e45677c176f7,
     0x3f43e45677c176f7,
@@ -269,18 +269,10 @@ const SRGB_TO_LINEAR: [u64; 256] = [
     0x3ff0000000000000,
 ];
 
-// The table. A constant array is built anew at every use, so fetch it once and lend it on.
-pub fn srgb_to_linear_lut() -> [u64; 256]
-    ensures { result ≡ srgb_to_linear }
-{
-    SRGB_TO_LINEAR
-}
-
 // sRGB byte to linear light, from 0 to 1.
-pub fn srgb_channel_to_linear(lut: &[u64; 256], value: u8) -> f64
-    requires { lut.now ≡ srgb_to_linear }
+pub fn linear(value: u8) -> f64
     ensures value { result ≡ linear value }
     ensures rule { Rule value result }
 {
-    f64::from_bits(lut[value as usize])
+    f64::from_bits(SRGB_TO_LINEAR[value as usize])
 }

@@ -1,350 +1,179 @@
 // The lines of compare/replay.txt: words separated by one space, numbers, floats by their bits, bytes of two
-// digits, each with how often it comes if that is more than once; parts of buffers, as long as a word says; and their like
-// written at the end of a text.
+// digits, each with how often it comes if that is more than once; parts of buffers, as long as a word says; and how
+// floats and bytes are written at the end of a text.
 #![tactic(auto)]
 
-ghost use Rattle.std.specs.Prelude.{◌+◌, ◌^◌, ◌<◌, ◌≤◌, length};
+ghost use Rattle.std.specs.Prelude.{◌≡◌, ◌<◌, ◌≤◌, length, take, IfSome};
 
-use std::io::{self, Print};
+use std::fmt;
 
-// A byte of the text, a space past its end.
-pub fn byte_at(text: &[u8], i: usize) -> u8 {
-    if i < text.len() { text[i] } else { b' ' }
-}
-
-// The index of the line's end.
-pub fn line_end(text: &[u8], from: usize) -> usize
-    requires { from ≤ length text.now }
-    ensures begins { from ≤ result }
-    ensures ends { result ≤ length text.now }
-    ensures room { result + 1 < 2 ^ 64 }
-{
-    for i in from..text.len() {
-        if text[i] == b'\n' {
-            return i;
-        }
-    }
-    text.len()
-}
-
-// Where word k of the line begins.
-pub fn word(line: &[u8], k: usize) -> usize {
-    let mut left = k;
-    for i in 0..line.len() {
-        if left == 0 {
-            return i;
-        }
-        if line[i] == b' ' {
-            left -= 1;
-        }
-    }
-    line.len()
-}
-
-fn is_digit(b: u8) -> bool {
-    (b >= b'0' && b <= b'9') || (b >= b'a' && b <= b'f')
-}
-
-// What a digit stands for, 0 for another byte.
-fn digit(b: u8) -> u8
-    ensures { result ≤ 15 }
-{
-    if b < b'0' {
-        return 0;
-    }
-    if b <= b'9' {
-        return b - b'0';
-    }
-    if b < b'a' {
-        return 0;
-    }
-    if b <= b'f' {
-        return b - 87;
-    }
-    0
-}
-
-fn pair(high: u8, low: u8) -> u8 {
-    16 * digit(high) + digit(low)
-}
-
-// n with one digit more.
-fn push(n: u64, b: u8, base: u64) -> u64 {
-    let two = n.wrapping_add(n);
-    let four = two.wrapping_add(two);
-    let eight = four.wrapping_add(four);
-    let rest = if base == 10 { two } else { eight };
-    let scaled = eight.wrapping_add(rest);
-    scaled.wrapping_add(digit(b) as u64)
-}
-
-// The number that begins here, of base 10 or 16, up to the first byte that is no digit.
-pub fn number_from(line: &[u8], from: usize, base: u64) -> u64 {
-    let mut n = 0;
-    for i in from..line.len() {
-        let b = line[i];
-        if !is_digit(b) {
-            return n;
-        }
-        n = push(n, b, base);
-    }
-    n
-}
-
-pub fn number(line: &[u8], k: usize) -> u64 {
-    number_from(line, word(line, k), 10)
-}
-
-pub fn float(line: &[u8], k: usize) -> f64 {
-    bits::to_float(number_from(line, word(line, k), 16))
-}
-
-// How far bytes are read: where to read on, the last byte, how often it is still to come, and whether there is no more.
+// A line; numbers from 0 count its words.
 #[derive(Clone, Copy)]
-struct Reader {
-    at: usize,
+pub struct Line<'a> {
+    text: &'a [u8],
+}
+
+impl<'a> Line<'a> {
+    pub fn new(text: &'a [u8]) -> Line<'a> {
+        Line { text }
+    }
+
+    // What kind of line it is: the first word.
+    pub fn kind(self) -> &'a [u8] {
+        self.text.split(|b| *b == b' ').next().unwrap_or(&[])
+    }
+
+    // The line from word k on, nothing where it has fewer words.
+    fn from_word(self, k: usize) -> &'a [u8] {
+        self.text
+            .splitn(k.saturating_add(1), |b| *b == b' ')
+            .nth(k)
+            .unwrap_or(&[])
+    }
+
+    pub fn number(self, k: usize) -> u64 {
+        number(self.from_word(k), 10)
+    }
+
+    pub fn bits(self, k: usize) -> u64 {
+        number(self.from_word(k), 16)
+    }
+
+    pub fn float(self, k: usize) -> f64 {
+        bits::to_float(self.bits(k))
+    }
+
+    // Reads the bytes of word k into the buffer, as far as it holds them, and lends them.
+    pub fn bytes<'b>(self, k: usize, buffer: &'b mut [u8]) -> &'b mut [u8]
+        ensures { length result.now ≤ length buffer.old }
+    {
+        let bytes = Bytes::new(self.from_word(k));
+        for (cell, byte) in buffer.iter_mut().zip(bytes) {
+            *cell = byte;
+        }
+        let n = bytes.take(buffer.len()).count();
+        &mut buffer[..n]
+    }
+}
+
+// The first n cells of a buffer, as far as it goes.
+pub fn part<T>(buffer: &[T], n: u64) -> &[T]
+    ensures { result.now ≡ take n buffer.now }
+{
+    &buffer[..buffer.len().min(n as usize)]
+}
+
+pub fn part_mut<T>(buffer: &mut [T], n: u64) -> &mut [T]
+    ensures { result.now ≡ take n buffer.old }
+{
+    let length = buffer.len().min(n as usize);
+    &mut buffer[..length]
+}
+
+// What a digit stands for; a letter is a digit in base 10 too, and a capital is none.
+fn digit(b: u8) -> Option<u32>
+    ensures { IfSome result (λ d. d < 16) }
+{
+    char::from(b)
+        .to_digit(16)
+        .filter(|_| !b.is_ascii_uppercase())
+}
+
+// The number at the head of a text, up to the first byte that is no digit; it wraps.
+fn number(text: &[u8], base: u64) -> u64 {
+    text.iter().map_while(|b| digit(*b)).fold(
+        0u64,
+        |n, d| n.wrapping_mul(base).wrapping_add(u64::from(d)),
+    )
+}
+
+// The bytes at the head of a text: the last one, how often it is still to come, and what follows.
+#[derive(Clone, Copy)]
+struct Bytes<'a> {
     byte: u8,
     left: u64,
-    ended: bool,
+    rest: &'a [u8],
 }
 
-// The index past the next comma.
-fn past_comma(line: &[u8], from: usize) -> usize {
-    for i in from..line.len() {
-        if line[i] == b',' {
-            return i + 1;
-        }
-    }
-    line.len()
-}
-
-// A byte of two digits; x, a number and a comma after it say how often it comes.
-fn new_byte(line: &[u8], at: usize) -> Reader {
-    let high = byte_at(line, at);
-    if !is_digit(high) {
-        return Reader {
-            at,
+impl<'a> Bytes<'a> {
+    fn new(text: &'a [u8]) -> Bytes<'a> {
+        Bytes {
             byte: 0,
             left: 0,
-            ended: true,
-        };
-    }
-    let second = at.wrapping_add(1);
-    let byte = pair(high, byte_at(line, second));
-    let after = second.wrapping_add(1);
-    if byte_at(line, after) == b'x' {
-        let times = after.wrapping_add(1);
-        return Reader {
-            at: past_comma(line, times),
-            byte,
-            left: number_from(line, times, 10),
-            ended: false,
-        };
-    }
-    Reader {
-        at: after,
-        byte,
-        left: 1,
-        ended: false,
-    }
-}
-
-// One byte on.
-fn next_byte(line: &[u8], r: Reader) -> Reader {
-    if r.left > 1 {
-        return Reader {
-            at: r.at,
-            byte: r.byte,
-            left: r.left - 1,
-            ended: false,
-        };
-    }
-    new_byte(line, r.at)
-}
-
-// Puts the bytes that begin here into out, as far as it holds them, and says how many.
-fn bytes_from(line: &[u8], from: usize, out: &mut [u8]) -> usize
-    ensures { result ≤ length out.new }
-{
-    let mut r = Reader {
-        at: from,
-        byte: 0,
-        left: 0,
-        ended: false,
-    };
-    for i in 0..out.len() {
-        r = next_byte(line, r);
-        if r.ended {
-            return i;
-        }
-        out[i] = r.byte;
-    }
-    out.len()
-}
-
-pub fn bytes(line: &[u8], k: usize, out: &mut [u8]) -> usize
-    ensures { result ≤ length out.new }
-{
-    bytes_from(line, word(line, k), out)
-}
-
-pub fn clamp(n: u64, most: usize) -> usize
-    ensures { result ≤ most }
-{
-    if n < most as u64 { n as usize } else { most }
-}
-
-// Whether the line begins with these four bytes.
-pub fn begins(line: &[u8], name: &[u8; 4]) -> bool {
-    byte_at(line, 0) == name[0]
-        && byte_at(line, 1) == name[1]
-        && byte_at(line, 2) == name[2]
-        && byte_at(line, 3) == name[3]
-}
-
-// Where a part ends that begins at `from` and is as long as word k says, in a buffer of so many cells.
-fn part_end(line: &[u8], k: usize, from: usize, most: usize) -> usize
-    requires { from ≤ most }
-    ensures begins { from ≤ result }
-    ensures ends { result ≤ most }
-{
-    from + clamp(number(line, k), most - from)
-}
-
-// The part of a buffer that begins at `from` and is as long as word k says, as far as the buffer goes.
-pub fn floats<'a>(line: &[u8], k: usize, buffer: &'a mut [f64], from: usize) -> &'a mut [f64] {
-    let a = clamp(from as u64, buffer.len());
-    let e = part_end(line, k, a, buffer.len());
-    &mut buffer[a..e]
-}
-
-pub fn seen_floats<'a>(line: &[u8], k: usize, buffer: &'a [f64], from: usize) -> &'a [f64] {
-    let a = clamp(from as u64, buffer.len());
-    let e = part_end(line, k, a, buffer.len());
-    &buffer[a..e]
-}
-
-pub fn part<'a>(line: &[u8], k: usize, buffer: &'a mut [u8], from: usize) -> &'a mut [u8] {
-    let a = clamp(from as u64, buffer.len());
-    let e = part_end(line, k, a, buffer.len());
-    &mut buffer[a..e]
-}
-
-pub fn seen_part<'a>(line: &[u8], k: usize, buffer: &'a [u8], from: usize) -> &'a [u8] {
-    let a = clamp(from as u64, buffer.len());
-    let e = part_end(line, k, a, buffer.len());
-    &buffer[a..e]
-}
-
-pub fn counts<'a>(line: &[u8], k: usize, buffer: &'a mut [u32]) -> &'a mut [u32] {
-    let a = 0;
-    let e = part_end(line, k, a, buffer.len());
-    &mut buffer[a..e]
-}
-
-pub fn seen_counts<'a>(line: &[u8], k: usize, buffer: &'a [u32]) -> &'a [u32] {
-    let a = 0;
-    let e = part_end(line, k, a, buffer.len());
-    &buffer[a..e]
-}
-
-pub fn words<'a>(line: &[u8], k: usize, buffer: &'a mut [u64]) -> &'a mut [u64] {
-    let a = 0;
-    let e = part_end(line, k, a, buffer.len());
-    &mut buffer[a..e]
-}
-
-pub fn seen_words<'a>(line: &[u8], k: usize, buffer: &'a [u64]) -> &'a [u64] {
-    let a = 0;
-    let e = part_end(line, k, a, buffer.len());
-    &buffer[a..e]
-}
-
-// So many bytes of a buffer from `from` on, as far as it goes.
-fn span(buffer: &mut [u8], from: usize, n: usize) -> &mut [u8] {
-    let a = clamp(from as u64, buffer.len());
-    let e = a + clamp(n as u64, buffer.len() - a);
-    &mut buffer[a..e]
-}
-
-pub fn seen_span(buffer: &[u8], from: usize, n: usize) -> &[u8] {
-    let a = clamp(from as u64, buffer.len());
-    let e = a + clamp(n as u64, buffer.len() - a);
-    &buffer[a..e]
-}
-
-// Puts the bytes of word k into the buffer, from `from` on and at most so many, and says how many.
-pub fn read(line: &[u8], k: usize, buffer: &mut [u8], from: usize, most: usize) -> usize {
-    bytes(line, k, span(buffer, from, most))
-}
-
-// Reads the bytes of word k into the buffer, and lends them.
-pub fn read_part<'a>(line: &[u8], k: usize, buffer: &'a mut [u8]) -> &'a mut [u8] {
-    let a = 0;
-    let e = bytes(line, k, buffer);
-    &mut buffer[a..e]
-}
-
-pub fn space(rt: &impl Print) -> io::Result<()> {
-    print!(rt; " ")
-}
-
-fn print_byte(rt: &impl Print, b: u8) -> io::Result<()> {
-    print!(rt; "{b:02x}")
-}
-
-// Where the bytes end that are equal to the one here.
-fn run_end(bytes: &[u8], from: usize) -> usize
-    requires { from < length bytes.now }
-    ensures begins { from < result }
-    ensures ends { result ≤ length bytes.now }
-{
-    let b = bytes[from];
-    for i in from + 1..bytes.len() {
-        if bytes[i] != b {
-            return i;
+            rest: text,
         }
     }
-    bytes.len()
-}
 
-// A byte n times.
-fn print_run(rt: &impl Print, b: u8, n: usize) -> io::Result<()> {
-    if n >= 16 {
-        return print!(rt; "{b:02x}x{n},");
+    // The next byte of two digits; x, a number and a comma after it say how often it comes.
+    fn run(text: &'a [u8]) -> Option<Bytes<'a>> {
+        let (high, others) = text.split_first()?;
+        let high = digit(*high)?;
+        let low = others.first().and_then(|b| digit(*b)).unwrap_or(0);
+        let byte = (16 * high + low) as u8;
+        let (left, rest) = match others {
+            [_, b'x', times @ ..] => (number(times, 10).saturating_sub(1), past_comma(times)),
+            [_, rest @ ..] => (0, rest),
+            [] => (0, others),
+        };
+        Some(Bytes { byte, left, rest })
     }
-    for _ in 0..n {
-        print_byte(rt, b)?;
+}
+
+impl Iterator for Bytes<'_> {
+    type Item = u8;
+
+    fn next(&mut self) -> Option<u8> {
+        match self.left.checked_sub(1) {
+            Some(left) => self.left = left,
+            None => *self = Bytes::run(self.rest)?,
+        }
+        Some(self.byte)
     }
-    Ok(())
 }
 
-pub fn print_bytes(rt: &impl Print, bytes: &[u8]) -> io::Result<()> {
-    if bytes.is_empty() {
-        return print!(rt; "-");
+// What follows the first comma.
+fn past_comma(text: &[u8]) -> &[u8] {
+    text.splitn(2, |b| *b == b',').nth(1).unwrap_or(&[])
+}
+
+// A float, written as its bits.
+#[derive(Clone, Copy)]
+pub struct Bits(pub f64);
+
+impl fmt::Display for Bits {
+    fn fmt<W: fmt::Write>(&self, f: &mut fmt::Formatter<W>) -> fmt::Result {
+        let pattern = bits::of_float(self.0);
+        write!(f, "{pattern:016x}")
     }
-    let mut at = 0;
-    while at < bytes.len() {
-        let end = run_end(bytes, at);
-        print_run(rt, bytes[at], end - at)?;
-        at = end;
+}
+
+// Bytes, each written as two digits, but 16 or more that are equal as one and how often it comes.
+#[derive(Clone, Copy)]
+pub struct Runs<'a>(pub &'a [u8]);
+
+impl fmt::Display for Runs<'_> {
+    fn fmt<W: fmt::Write>(&self, f: &mut fmt::Formatter<W>) -> fmt::Result {
+        if self.0.is_empty() {
+            return write!(f, "-");
+        }
+        for run in self.0.chunk_by(|a, b| a == b) {
+            write_run(run, f)?;
+        }
+        Ok(())
     }
-    Ok(())
 }
 
-pub fn print_number(rt: &impl Print, n: u64) -> io::Result<()> {
-    print!(rt; " {n}")
-}
-
-pub fn print_float(rt: &impl Print, x: f64) -> io::Result<()> {
-    let pattern = bits::of_float(x);
-    print!(rt; " {pattern:016x}")
-}
-
-pub fn print_sum(rt: &impl Print, sum: u64) -> io::Result<()> {
-    print!(rt; " {sum:08x}")
-}
-
-pub fn end_line(rt: &impl Print) -> io::Result<()> {
-    print!(rt; "\n")
+fn write_run<W: fmt::Write>(run: &[u8], f: &mut fmt::Formatter<W>) -> fmt::Result {
+    match run {
+        [b, ..] if run.len() >= 16 => {
+            let n = run.len();
+            write!(f, "{b:02x}x{n},")
+        }
+        _ => {
+            for b in run {
+                write!(f, "{b:02x}")?;
+            }
+            Ok(())
+        }
+    }
 }

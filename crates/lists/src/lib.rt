@@ -4,181 +4,168 @@
 
 ghost use Rattle.std.specs.Prelude.{◌≤◌};
 
-use base::{Index, Status};
-use given::{INDICES, PINNED};
+use checksum::Checksum;
+use given::{Job, Lent, Store};
+use lines::{Bits, Line, part, part_mut};
 use std::io::{self, Print};
-use work::DbsWorked;
 
 // The pixel of the copies' buffers at which a copy begins.
-fn from(line: &[u8]) -> usize
+fn copy_start(line: Line<'_>) -> usize
     ensures { result ≤ 1024 }
 {
-    lines::clamp(lines::number(line, 2), 1024)
+    line.number(2).min(1024) as usize
 }
 
-fn print_copy(rt: &impl Print, copy_cpe: &[f64], copy_indices: &[Index]) -> io::Result<()> {
-    given::print_floats(rt, copy_cpe)?;
-    given::print_bytes(rt, copy_indices)?;
-    lines::end_line(rt)
-}
-
-pub fn take(
-    rt: &impl Print,
-    line: &[u8],
-    given: &[u8],
-    cpe: &[f64],
-    states: &mut [u8],
-    record: &[u64],
-    copy_cpe: &mut [f64],
-    copy_indices: &mut [Index],
-) -> io::Result<()> {
-    let states = lines::part(line, 5, states, 0);
-    let copy_cpe = lines::floats(line, 7, copy_cpe, 3 * from(line));
-    let copy_indices = lines::part(line, 8, copy_indices, from(line));
-    let s = dbs::dbs_take(
-        lines::seen_words(line, 6, record),
-        lines::number(line, 1),
-        lines::seen_part(line, 3, given, INDICES),
-        lines::seen_floats(line, 4, cpe, 0),
+pub fn take(rt: &impl Print, line: Line<'_>, job: &mut Job) -> io::Result<()> {
+    let Job {
+        lent,
+        states,
+        record,
+        copy_cpe,
+        copy_indices,
+        ..
+    } = job;
+    let start = copy_start(line);
+    let states = part_mut(states, line.number(5));
+    let copy_cpe = part_mut(&mut copy_cpe[3 * start..], line.number(7));
+    let copy_indices = part_mut(&mut copy_indices[start..], line.number(8));
+    let status = dbs::dbs_take(
+        part(record, line.number(6)),
+        line.number(1),
+        part(&lent.store.indices, line.number(3)),
+        part(&lent.cpe, line.number(4)),
         states,
         copy_cpe,
         copy_indices,
     );
-    given::print_status(rt, b"taken", s)?;
-    given::print_bytes(rt, states)?;
-    print_copy(rt, copy_cpe, copy_indices)
+    println!(rt;
+        "taken {} {} {} {} {}",
+        status.number,
+        status.place,
+        Checksum::of(states),
+        Checksum::of(copy_cpe),
+        Checksum::of(copy_indices)
+    )
 }
 
-fn print_worked(rt: &impl Print, w: DbsWorked) -> io::Result<()> {
-    print!(rt; "worked")?;
-    lines::print_number(rt, w.number)?;
-    lines::print_number(rt, w.place)?;
-    lines::print_number(rt, w.accepted)?;
-    lines::print_float(rt, w.delta)
-}
-
-pub fn work(
-    rt: &impl Print,
-    line: &[u8],
-    given: &[u8],
-    cpp: &[f64],
-    inks: &[f64],
-    record: &[u64],
-    copy_cpe: &mut [f64],
-    copy_indices: &mut [Index],
-) -> io::Result<()> {
-    let copy_cpe = lines::floats(line, 7, copy_cpe, 3 * from(line));
-    let copy_indices = lines::part(line, 8, copy_indices, from(line));
-    let w = dbs::dbs_work(
-        lines::seen_words(line, 6, record),
-        lines::number(line, 1),
-        lines::seen_part(line, 3, given, PINNED),
-        lines::seen_floats(line, 4, cpp, 0),
+pub fn work(rt: &impl Print, line: Line<'_>, job: &mut Job) -> io::Result<()> {
+    let Job {
+        lent,
+        record,
         copy_cpe,
         copy_indices,
-        lines::seen_floats(line, 5, inks, 0),
+        ..
+    } = job;
+    let start = copy_start(line);
+    let copy_cpe = part_mut(&mut copy_cpe[3 * start..], line.number(7));
+    let copy_indices = part_mut(&mut copy_indices[start..], line.number(8));
+    let worked = dbs::dbs_work(
+        part(record, line.number(6)),
+        line.number(1),
+        part(&lent.store.pinned, line.number(3)),
+        part(&lent.cpp, line.number(4)),
+        copy_cpe,
+        copy_indices,
+        part(&lent.inks, line.number(5)),
     );
-    print_worked(rt, w)?;
-    print_copy(rt, copy_cpe, copy_indices)
+    println!(rt;
+        "worked {} {} {} {} {} {}",
+        worked.number,
+        worked.place,
+        worked.accepted,
+        Bits(worked.delta),
+        Checksum::of(copy_cpe),
+        Checksum::of(copy_indices)
+    )
 }
 
-fn print_back(
-    rt: &impl Print,
-    s: Status,
-    indices: &[Index],
-    cpe: &[f64],
-    states: &[u8],
-    deltas: &[f64],
-    record: &[u64],
-) -> io::Result<()> {
-    given::print_status(rt, b"back", s)?;
-    given::print_bytes(rt, indices)?;
-    given::print_floats(rt, cpe)?;
-    given::print_bytes(rt, states)?;
-    given::print_floats(rt, deltas)?;
-    given::print_words(rt, record)?;
-    lines::end_line(rt)
-}
-
-pub fn put_back(
-    rt: &impl Print,
-    line: &[u8],
-    given: &mut [u8],
-    cpe: &mut [f64],
-    states: &mut [u8],
-    deltas: &mut [f64],
-    record: &mut [u64],
-    copy_cpe: &[f64],
-    copy_indices: &[Index],
-) -> io::Result<()> {
-    let indices = lines::part(line, 5, given, INDICES);
-    let cpe = lines::floats(line, 6, cpe, 0);
-    let states = lines::part(line, 7, states, 0);
-    let deltas = lines::floats(line, 8, deltas, 0);
-    let record = lines::words(line, 9, record);
-    let s = dbs::dbs_put_back(
+pub fn put_back(rt: &impl Print, line: Line<'_>, job: &mut Job) -> io::Result<()> {
+    let Job {
+        lent: Lent {
+            store: Store { indices, .. },
+            cpe,
+            ..
+        },
+        states,
+        deltas,
         record,
-        lines::number(line, 1),
+        copy_cpe,
+        copy_indices,
+    } = job;
+    let start = copy_start(line);
+    let indices = part_mut(indices, line.number(5));
+    let cpe = part_mut(cpe, line.number(6));
+    let states = part_mut(states, line.number(7));
+    let deltas = part_mut(deltas, line.number(8));
+    let record = part_mut(record, line.number(9));
+    let status = dbs::dbs_put_back(
+        record,
+        line.number(1),
         indices,
         cpe,
         states,
         deltas,
-        lines::seen_floats(line, 10, copy_cpe, 3 * from(line)),
-        lines::seen_part(line, 11, copy_indices, from(line)),
-        lines::number(line, 3),
-        lines::float(line, 4),
+        part(&copy_cpe[3 * start..], line.number(10)),
+        part(&copy_indices[start..], line.number(11)),
+        line.number(3),
+        line.float(4),
     );
-    print_back(rt, s, indices, cpe, states, deltas, record)
+    println!(rt;
+        "back {} {} {} {} {} {} {}",
+        status.number,
+        status.place,
+        Checksum::of(indices),
+        Checksum::of(cpe),
+        Checksum::of(states),
+        Checksum::of(deltas),
+        Checksum::of(record)
+    )
 }
 
-pub fn recall(rt: &impl Print, line: &[u8], states: &mut [u8], record: &[u64]) -> io::Result<()> {
-    let states = lines::part(line, 2, states, 0);
-    let s = dbs::dbs_recall(
-        lines::seen_words(line, 3, record),
-        lines::number(line, 1),
+pub fn recall(rt: &impl Print, line: Line<'_>, job: &mut Job) -> io::Result<()> {
+    let Job { states, record, .. } = job;
+    let states = part_mut(states, line.number(2));
+    let status = dbs::dbs_recall(part(record, line.number(3)), line.number(1), states);
+    println!(rt;
+        "recalled {} {} {}",
+        status.number,
+        status.place,
+        Checksum::of(states)
+    )
+}
+
+pub fn close(rt: &impl Print, line: Line<'_>, job: &mut Job) -> io::Result<()> {
+    let Job {
+        lent: Lent { counts, .. },
         states,
-    );
-    given::print_status(rt, b"recalled", s)?;
-    given::print_bytes(rt, states)?;
-    lines::end_line(rt)
-}
-
-pub fn close(
-    rt: &impl Print,
-    line: &[u8],
-    counts: &mut [u32],
-    states: &mut [u8],
-    deltas: &[f64],
-    record: &mut [u64],
-) -> io::Result<()> {
-    let counts = lines::counts(line, 1, counts);
-    let states = lines::part(line, 2, states, 0);
-    let record = lines::words(line, 4, record);
-    let s = dbs::dbs_close(
+        deltas,
         record,
-        counts,
-        states,
-        lines::seen_floats(line, 3, deltas, 0),
-    );
-    given::print_status(rt, b"closed", s)?;
-    lines::print_sum(rt, checksum::counts(counts))?;
-    given::print_bytes(rt, states)?;
-    given::print_words(rt, record)?;
-    lines::end_line(rt)
+        ..
+    } = job;
+    let counts = part_mut(counts, line.number(1));
+    let states = part_mut(states, line.number(2));
+    let record = part_mut(record, line.number(4));
+    let status = dbs::dbs_close(record, counts, states, part(deltas, line.number(3)));
+    println!(rt;
+        "closed {} {} {} {} {}",
+        status.number,
+        status.place,
+        Checksum::of(counts),
+        Checksum::of(states),
+        Checksum::of(record)
+    )
 }
 
 // Word I of the record is set.
-pub fn set_word(line: &[u8], record: &mut [u64]) {
-    let i = lines::number(line, 1);
-    if i < record.len() as u64 {
-        record[i as usize] = lines::number_from(line, lines::word(line, 2), 16);
+pub fn set_word(line: Line<'_>, job: &mut Job) {
+    if let Some(word) = job.record.get_mut(line.number(1) as usize) {
+        *word = line.bits(2);
     }
 }
 
 // Cell I of the copies' indices is set.
-pub fn set_index(line: &[u8], copy_indices: &mut [Index]) {
-    let i = lines::number(line, 1);
-    if i < copy_indices.len() as u64 {
-        copy_indices[i as usize] = lines::clamp(lines::number(line, 2), 255) as u8;
+pub fn set_index(line: Line<'_>, job: &mut Job) {
+    if let Some(index) = job.copy_indices.get_mut(line.number(1) as usize) {
+        *index = line.number(2).min(255) as u8;
     }
 }

@@ -1,27 +1,25 @@
 -- The blurred error block by block: sums of the mirrored blur are the blurred error, blocks make bands, bands the error. Assumes nothing.
-use Prim.Native.Nat.{ℕ, zero, suc, ◌+◌, ◌*◌, ◌-◌, ◌<◌, ◌≤◌, min}
+use Prim.Native.Nat.{ℕ, ◌+◌, ◌*◌, ◌-◌, ◌<◌, ◌≤◌, min}
 use native.Mathlib.Omega.{arith}
-use native.Mathlib.Nat.{add-mul, mul-le-mul, mul-le-mul_right}
+use native.Mathlib.Nat.{add-mul, mul-le-mul}
 use mathlib.Core.Path.{◌≡◌, refl, sym, ap, ◌∙◌}
-use mathlib.Core.List.{List, ◌++◌}
-use lib.ListN.{length, take, drop, length-append, length-drop}
-use lib.Seq.{take_at}
+use mathlib.Core.List.{List}
+use lib.ListN.{length}
 use lib.Ieee.{Float, nan}
-use Rattle.base.specs.Loop.{up_to, from_to, table}
-use Rattle.base.specs.F64.{◌+f◌, ◌*f◌, f0}
-use Rattle.base.proofs.Bounds.{index_lt, product_le}
+use Rattle.base.specs.Loop.{up_to, table}
+use Rattle.base.specs.F64.{◌+f◌, f0}
+use Rattle.base.proofs.Bounds.{index_lt}
 use Rattle.base.proofs.LoopLaws.{up_to_none, from_to_rel, from_to_same, up_to_same, up_to_join}
 use Rattle.base.proofs.TableLaws.{length-table, get_d_table, table_same}
 use Rattle.blur.specs.Blur.{entry}
 use Rattle.correlate.specs.Correlate.{at}
+use Rattle.color.specs.Inks.{number}
 use Rattle.error.specs.Error.{Scene}
 use Rattle.block.specs.declared.Block.{Block}
-use Rattle.block.specs.Block.{column_count, sum_term, sum_row, sum_rows}
-use Rattle.squares.specs.Squares.{mirrored, block_squares, SquareFits}
-use Rattle.measure.specs.declared.Frame.{Frame}
-use Rattle.measure.specs.declared.View.{View}
-use Rattle.measure.specs.Measure.{blur_term, blur_row, blurred_at, square_term, row_error, blur_error}
-use Rattle.measure.specs.Blocks.{mirror_of, block_of, ViewFits}
+use Rattle.block.specs.Block.{sum_term, sum_row, sum_rows}
+use Rattle.squares.specs.Squares.{mirrored, block_squares}
+use Rattle.measure.specs.Measure.{Frame, blur_term, blur_row, blurred_at, square_term, row_error, blur_error}
+use Rattle.measure.specs.Blocks.{View, mirror_of, block_of}
 
 -- ---- the blur, last value to first
 
@@ -97,15 +95,15 @@ module _ (W : View) (G : Scene) (taps : List Float) (square : length taps ≡ (2
   R = 2 * W.frame.radius
 
   -- its sums, from 0, are the blurred error
-  seen_is : (x y rows i j : ℕ) → sum_rows (block_of W x y rows) G taps F.height i j f0 ≡ blurred_at F G (mirror_of taps) W.channel (x + j) (y + i)
+  seen_is : (x y rows i j : ℕ) → sum_rows F.width (block_of W x y rows) G taps F.height i j f0 ≡ blurred_at F G (mirror_of taps) (number W.channel) (x + j) (y + i)
   unfolding sum_rows sum_row sum_term blurred_at blur_row blur_term
   seen_is x y rows i j =
       let ox = x + j in
       let oy = y + i in
-      from_to_rel (λ (s t : Float). s ≡ t) (oy - R) (min F.height (oy + 0 + 1)) _ _ _ (blur_row F G (mirror_of taps) W.channel ox oy) refl (omega arith)
+      from_to_rel (λ (s t : Float). s ≡ t) (oy - R) (min F.height (oy + 0 + 1)) _ _ _ (blur_row F G (mirror_of taps) (number W.channel) ox oy) refl (omega arith)
       (λ v low high s t e.
       let below : v < min F.height (oy + 1) = omega (arith, high) in
-      rw e (from_to_rel (λ (p q : Float). p ≡ q) (ox - R) (min F.width (ox + 0 + 1)) _ _ _ (blur_term F G (mirror_of taps) W.channel ox oy v) refl (omega arith)
+      rw e (from_to_rel (λ (p q : Float). p ≡ q) (ox - R) (min F.width (ox + 0 + 1)) _ _ _ (blur_term F G (mirror_of taps) (number W.channel) ox oy v) refl (omega arith)
       (λ u left right p q d.
       let within : u < min F.width (ox + 1) = omega (arith, right) in
       let side : R + 0 + 1 ≡ R + 1 = omega arith in
@@ -114,11 +112,11 @@ module _ (W : View) (G : Scene) (taps : List Float) (square : length taps ≡ (2
       f0 f0 refl
 
   -- its squares
-  pub squares_are : (B : Block) (x y rows : ℕ) (sums sums' : List Float) → B ≡ block_of W x y rows → sums' ≡ table B.rows (block_squares B G taps sums) →
-      sums' ≡ table rows (λ i. up_to (λ j. square_term F G (mirror_of taps) W.channel (y + i) (x + j)) B.lines.width (at sums i))
+  pub squares_are : (B : Block) (x y rows : ℕ) (sums sums' : List Float) → B ≡ block_of W x y rows → sums' ≡ table B.rows (block_squares F.width F.height B G taps sums) →
+      sums' ≡ table rows (λ i. up_to (λ j. square_term F G (mirror_of taps) (number W.channel) (y + i) (x + j)) B.lines.width (at sums i))
   unfolding block_squares square_term
   squares_are B x y rows sums sums' e p =
-      rw e (rw e at p ∙ table_same rows (block_squares (block_of W x y rows) G taps sums) (λ i. up_to (λ j. square_term F G (mirror_of taps) W.channel (y + i) (x + j)) (min 128 (F.width + R - x)) (at sums i))
+      rw e (rw e at p ∙ table_same rows (block_squares F.width F.height (block_of W x y rows) G taps sums) (λ i. up_to (λ j. square_term F G (mirror_of taps) (number W.channel) (y + i) (x + j)) (min 128 (F.width + R - x)) (at sums i))
       (λ i h. up_to_same (min 128 (F.width + R - x)) _ _ (at sums i) (λ j g s. rw (seen_is x y rows i j))))
 
 -- ---- bands
@@ -140,76 +138,12 @@ module _ (F : Frame) (G : Scene) (blur : List Float) (c y n : ℕ) where
   unfolding row_error
   band_all x sums e p = p ∙ ap banded e
 
--- room of the same lengths
-pub same_view : (W : View) (G : Scene) (taps line out line' out' : ℕ) → ViewFits W G taps line out → line' ≡ line → out' ≡ out → ViewFits W G taps line' out'
-same_view W G taps line out line' out' f p q = rw (p, q) f
-
--- what the next block of a band has
-pub record NextBlock (W : View) (G : Scene) (B : Block) (taps line out x rows : ℕ) : Type 0 where
-  pub fits : SquareFits B G taps line out rows
-  pub on : x < x + B.lines.width
-  pub within : x + B.lines.width ≤ W.frame.width + 2 * W.frame.radius
-
--- the columns of the image that it takes are few
-count_most : (w x R C : ℕ) → C ≤ 128 → R ≤ 32 → min w (x + C + 0) - (x - R) ≤ 160
-count_most w x R C h g = omega (arith, h, g)
-
-pub next_block : (W : View) (G : Scene) (B : Block) (taps line out x y rows : ℕ) → ViewFits W G taps line out → B ≡ block_of W x y rows → x < W.frame.width + 2 * W.frame.radius → rows ≤ 64 → y + rows ≤ W.frame.height + 2 * W.frame.radius →
-    NextBlock W G B taps line out x rows
-next_block W G B taps line out x y rows f e h few bottom =
-    let R = 2 * W.frame.radius in
-    let end = W.frame.width + R in
-    let C = min 128 (end - x) in
-    let some : 1 ≤ C = omega (arith, h) in
-    let most : x + C ≤ end = omega (arith, h) in
-    let thin : C ≤ 128 = omega arith in
-    let whole : rows * C ≤ 8192 = product_le rows C 64 128 few thin in
-    let one : R + 0 + 1 ≡ R + 1 = omega arith in
-    rw e (record {
-      fits = record {
-        block = record {
-          scene = f.scene;
-          reach = omega (arith, f.most);
-          wide = some;
-          apart = omega arith;
-          right = most;
-          bottom = bottom;
-          square = f.square ∙ ap (λ (n : ℕ). n * n) (sym one);
-          row = refl;
-          room = λ i g. let m : suc (0 + 1 * i) * C ≤ rows * C = mul-le-mul_right C (omega (arith, g)) in omega (arith, m, whole, f.block);
-          most = omega (arith, f.block);
-        };
-        first = refl;
-        step = refl;
-        whole = omega (arith, whole, f.block);
-        most = omega (arith, f.block);
-        errors = omega (arith, count_most W.frame.width x R C thin (omega (arith, f.most)), f.errors);
-        each = refl;
-      };
-      on = omega (arith, some);
-      within = most;
-    })
-
 -- the sums of a band's rows, which stand in a list
 pub band_added : (F : Frame) (G : Scene) (blur : List Float) (c y n : ℕ) (sums : List Float) (s : Float) → sums ≡ table n (λ i. row_error F G blur c (y + i)) →
     up_to (λ i t. t +f at sums i) (length sums) s ≡ up_to (λ i t. t +f row_error F G blur c (y + i)) n s
 band_added F G blur c y n sums s e =
     ap (λ (k : ℕ). up_to (λ i t. t +f at sums i) k s) (ap (λ (l : List Float). length l) e ∙ length-table _ _)
     ∙ up_to_same n (λ i t. t +f at sums i) (λ i t. t +f row_error F G blur c (y + i)) s (λ i h t. ap (λ (v : Float). t +f v) (ap (λ (l : List Float). at l i) e ∙ get_d_table n (λ j. row_error F G blur c (y + j)) i nan h))
-
--- which were lent as the first values of a list
-pub band_summed : (F : Frame) (G : Scene) (blur : List Float) (c y n m : ℕ) (t rest : List Float) (s : Float) → t ≡ table m (λ i. row_error F G blur c (y + i)) → m ≡ n →
-    up_to (λ i u. u +f at (take n (t ++ rest)) i) (length (take n (t ++ rest))) s ≡ up_to (λ i u. u +f row_error F G blur c (y + i)) n s
-band_summed F G blur c y n m t rest s e p =
-    band_added F G blur c y n (take n (t ++ rest)) s (take_at t rest n (ap (λ (l : List Float). length l) e ∙ length-table _ _ ∙ p) ∙ e ∙ ap (λ (k : ℕ). table k (λ i. row_error F G blur c (y + i))) p)
-
--- a list of which the first n values were replaced is as long as it was
-pub kept_length : (n : ℕ) (t l : List Float) → length t ≡ n → n ≤ length l → length (t ++ drop n l) ≡ length l
-kept_length n t l e h = rw (length-append, length-drop, e) (omega (arith, h))
-
--- the rows of the next band
-pub next_band : (end y rows : ℕ) → rows ≡ min 64 (end - y) → y < end → (rows ≤ 64) × (y + rows ≤ end) × (y < y + rows)
-next_band end y rows e h = (omega (arith, e), omega (arith, e, h), omega (arith, e, h))
 
 -- the error seen through a blur, by its values from last to first
 pub seen_through : (F : Frame) (G : Scene) (blur taps : List Float) (c n : ℕ) (r : Float) → r ≡ blur_error F G (mirror_of taps) c → taps ≡ table n (mirrored blur n) → n ≡ (2 * F.radius + 1) * (2 * F.radius + 1) → r ≡ blur_error F G blur c

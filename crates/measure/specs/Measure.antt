@@ -7,7 +7,12 @@ use Rattle.base.specs.F64.{◌+f◌, ◌*f◌, f0}
 use Rattle.color.specs.Inks.{channel}
 use Rattle.blur.specs.Blur.{entry}
 use Rattle.error.specs.Error.{Scene, scene, error_at, SceneFits}
-use Rattle.measure.specs.declared.Frame.{Frame}
+
+-- an image's size and a blur's radius
+pub record Frame : Type 0 where
+  pub width : ℕ
+  pub height : ℕ
+  pub radius : ℕ
 
 abbrev pub frame : ℕ → ℕ → ℕ → Frame
 frame width height radius = record { width = width; height = height; radius = radius }

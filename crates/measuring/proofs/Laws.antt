@@ -15,7 +15,7 @@ use Rattle.eye.specs.Eye.{sigma_px, blur_radius, Narrow}
 use Rattle.eye.proofs.EyeLaws.{narrow_both}
 use Rattle.blur.specs.Blur.{values, gaussian_line, blur_of, gaussian_blur}
 use Rattle.error.specs.Error.{scene, SceneFits}
-use Rattle.input.specs.Input.{Input, input, pixel_count, input_tests}
+use Rattle.input.specs.Input.{Input, pixel_count, input_tests}
 use Rattle.input.specs.Valid.{Valid}
 use Rattle.input.proofs.InputLaws.{eye_passes}
 use Rattle.input.proofs.Validity.{valid_iff}
@@ -44,7 +44,7 @@ module _ (I : Input) (ok : judge (input_tests I) ≡ accepted) where
   few_inks = omega (arith, valid.palette_length, valid.inks_most)
 
   -- what is measured: its pixels against its indices, nothing pinned
-  scene_fits : (inks : List Float) → inks ≡ ink_values I.palette → SceneFits I.width I.height (scene I.pixels I.indices [] inks)
+  pub scene_fits : (inks : List Float) → inks ≡ ink_values I.palette → SceneFits I.width I.height (scene I.pixels I.indices [] inks)
   unfolding pixel_count
   scene_fits inks e = record {
     wide = valid.width_least;

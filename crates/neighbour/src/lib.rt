@@ -2,84 +2,38 @@
 // `neighbour`, which finds the one that lies inside the image.
 #![tactic(auto)]
 
-ghost use Rattle.std.specs.Prelude.{◌≡◌, ◌<◌, ◌≤◌};
-ghost use Rattle.neighbour.specs.Neighbour.{Small, offset_of, shifted_of, neighbour_of};
+ghost use Rattle.std.specs.Prelude.{◌≡◌, ◌<◌};
+ghost use Rattle.neighbour.specs.Neighbour.{offset_of, shifted_of, neighbour_of};
 
-// An offset (dx, dy), or none.
-#[derive(Clone, Copy)]
-pub enum Offset {
-    By(i8, i8),
-    Nothing,
-}
-
-// A coordinate, or none.
-#[derive(Clone, Copy)]
-pub enum Shift {
-    To(usize),
-    Out,
-}
-
-// The neighbouring pixel, or none: it would lie outside the image, or no code names it.
-#[derive(Clone, Copy)]
-pub enum Adjacent {
-    Pixel { x: usize, y: usize },
-    Outside,
-}
-
-// The offset that a code names; other codes name none.
-pub fn offset_at(code: u8) -> Offset
+// The offset (dx, dy) that a code names; other codes name none.
+pub fn offset_at(code: u8) -> Option<(i8, i8)>
     ensures { result ≡ offset_of code }
 {
     match code {
-        0 => Offset::By(-1, -1),
-        1 => Offset::By(0, -1),
-        2 => Offset::By(1, -1),
-        3 => Offset::By(-1, 0),
-        4 => Offset::By(1, 0),
-        5 => Offset::By(-1, 1),
-        6 => Offset::By(0, 1),
-        7 => Offset::By(1, 1),
-        _ => Offset::Nothing,
+        0 => Some((-1, -1)),
+        1 => Some((0, -1)),
+        2 => Some((1, -1)),
+        3 => Some((-1, 0)),
+        4 => Some((1, 0)),
+        5 => Some((-1, 1)),
+        6 => Some((0, 1)),
+        7 => Some((1, 1)),
+        _ => None,
     }
 }
 
 // v + d, where it lies below n.
-pub fn shifted(v: usize, d: i8, n: usize) -> Shift
-    requires v_lt_n { v < n }
-    requires small { Small d }
+pub fn shifted(v: usize, d: i8, n: usize) -> Option<usize>
     ensures { result ≡ shifted_of v d n }
 {
-    if d == 0 {
-        return Shift::To(v);
-    }
-    if d == 1 {
-        if v + 1 < n {
-            return Shift::To(v + 1);
-        }
-        return Shift::Out;
-    }
-    if d == -1 {
-        if v == 0 {
-            return Shift::Out;
-        }
-        return Shift::To(v - 1);
-    }
-    Shift::Out
+    v.checked_add_signed(isize::from(d)).filter(|m| *m < n)
 }
 
-// The neighbour of (x, y) that a code names, in an image of w columns and h rows.
-pub fn neighbour(code: u8, x: usize, y: usize, w: usize, h: usize) -> Adjacent
+// The neighbour of (x, y) that a code names, in an image of w columns and h rows: none where it would lie outside, or no code names it.
+pub fn neighbour(code: u8, x: usize, y: usize, w: usize, h: usize) -> Option<(usize, usize)>
     requires { (x < w) × (y < h) }
     ensures { result ≡ neighbour_of code x y w h }
 {
-    let Offset::By(dx, dy) = offset_at(code) else {
-        return Adjacent::Outside;
-    };
-    let Shift::To(nx) = shifted(x, dx, w) else {
-        return Adjacent::Outside;
-    };
-    let Shift::To(ny) = shifted(y, dy, h) else {
-        return Adjacent::Outside;
-    };
-    Adjacent::Pixel { x: nx, y: ny }
+    let (dx, dy) = offset_at(code)?;
+    Some((shifted(x, dx, w)?, shifted(y, dy, h)?))
 }

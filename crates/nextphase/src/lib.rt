@@ -20,7 +20,7 @@ fn add_delta(t: Tiling, phase: usize, tile: usize, delta: f64, error: f64) -> f6
     requires { Limits t }
     ensures { result ≡ cond (in_phase t phase tile) (error +f delta) error }
 {
-    if tiling::is_in_phase(t, phase, tile) {
+    if t.is_in_phase(phase, tile) {
         return error + delta;
     }
     error
@@ -32,8 +32,8 @@ pub fn add_deltas(t: Tiling, phase: usize, deltas: &[f64], error: f64) -> f64
     ensures { result ≡ with_deltas t phase deltas.now (length deltas.now) error }
 {
     let mut e = error;
-    for i in 0..deltas.len() {
-        e = add_delta(t, phase, i, deltas[i], e);
+    for (i, delta) in deltas.iter().enumerate() {
+        e = add_delta(t, phase, i, *delta, e);
     }
     e
 }
@@ -43,8 +43,8 @@ fn released_state(t: Tiling, phase: usize, tile: usize, state: u8) -> u8
     requires { Limits t }
     ensures { result ≡ cond (in_phase t phase tile) (byte_of Waiting) state }
 {
-    if tiling::is_in_phase(t, phase, tile) {
-        return states::state_byte(TileState::Waiting);
+    if t.is_in_phase(phase, tile) {
+        return u8::from(TileState::Waiting);
     }
     state
 }
@@ -55,8 +55,8 @@ pub fn release(t: Tiling, phase: usize, tile_states: &mut [u8])
     requires tile_states_len { length tile_states.old ≡ tiles t }
     ensures { tile_states.new ≡ released t phase tile_states.old }
 {
-    for i in 0..tile_states.len() {
-        tile_states[i] = released_state(t, phase, i, tile_states[i]);
+    for (i, state) in tile_states.iter_mut().enumerate() {
+        *state = released_state(t, phase, i, *state);
     }
 }
 

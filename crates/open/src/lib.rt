@@ -2,23 +2,18 @@
 #![tactic(auto)]
 
 ghost use Rattle.std.specs.Prelude.{◌≡◌};
-ghost use Rattle.input.specs.Input.{input};
+ghost use Rattle.base.specs.Answer.{status_of};
+ghost use Rattle.input.specs.Inputs.{input_of};
 ghost use Rattle.job.specs.Open.{opening, opened};
 ghost use Rattle.job.specs.Boundary.{open_run};
 
-use base::{Index, Status};
-use eye::DbsParams;
+use base::Refusal;
+use input::Input;
 
 // The run is only written.
 pub fn open_run(
     record: &mut [u64],
-    pixels: &[u8],
-    width: u64,
-    height: u64,
-    palette: &[u8],
-    indices: &[Index],
-    pinned: &[u8],
-    params: DbsParams,
+    given: Input<'_>,
     max_passes: u64,
     cpe: &mut [f64],
     cpp: &mut [f64],
@@ -26,21 +21,12 @@ pub fn open_run(
     tile_states: &mut [u8],
     deltas: &mut [f64],
     inks: &mut [f64],
-) -> Status
-    ensures { opened result «record».new cpe.new cpp.new tile_states.new deltas.new inks.new ≡ open_run «record».old (opening (input width height pixels.now palette.now indices.now pinned.now params) max_passes cpe.old cpp.old accepted_per_pass.now tile_states.old deltas.old inks.old) }
+) -> Result<(), Refusal>
+    ensures { opened (status_of result) «record».new cpe.new cpp.new tile_states.new deltas.new inks.new ≡ open_run «record».old (opening (input_of given.entry) max_passes cpe.old cpp.old accepted_per_pass.now tile_states.old deltas.old inks.old) }
 {
-    let run = words::check_run(record.len());
-    if run.number != 0 {
-        return run;
-    }
-    let answer = start::open(
-        pixels,
-        width,
-        height,
-        palette,
-        indices,
-        pinned,
-        params,
+    words::check_run(record)?;
+    let opened = start::open(
+        given,
         max_passes,
         cpe,
         cpp,
@@ -48,6 +34,7 @@ pub fn open_run(
         tile_states,
         deltas,
         inks,
-    );
-    written::enter(record, answer)
+    )?;
+    written::encode(record, opened);
+    Ok(())
 }

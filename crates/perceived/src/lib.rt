@@ -2,19 +2,35 @@
 #![tactic(auto)]
 
 ghost use Rattle.std.specs.Prelude.{◌≡◌, []};
+ghost use Rattle.base.specs.Answer.{number_and_place};
 ghost use Rattle.input.specs.Input.{input};
-ghost use Rattle.perceived.specs.Perceived.{measure_of};
+ghost use Rattle.perceived.specs.Perceived.{refusal, measure_of};
 
-use base::Index;
+use base::{Index, Refusal, Status};
 use eye::DbsParams;
+use input::Input;
 
 // The perceived error, or a refusal with a zero.
+// Kept: C reads number and place here, so that it is no `Result`.
 #[repr(C)]
 #[derive(Clone, Copy)]
 pub struct Measured {
     pub number: u64,
     pub place: u64,
     pub error: f64,
+}
+
+impl From<Refusal> for Measured {
+    ghost from_gives = { λ r m. m ≡ refusal (number_and_place r) };
+
+    fn from(refusal: Refusal) -> Measured {
+        let s = Status::from(refusal);
+        Measured {
+            number: s.number,
+            place: s.place,
+            error: 0.0,
+        }
+    }
 }
 
 // Perceived error of the indices; pins play no part.
@@ -29,26 +45,21 @@ pub fn measure(
     ensures { result ≡ measure_of (input width height pixels.now palette.now indices.now [] params) }
 {
     // An empty mask: nothing is pinned.
-    let none = &palette[..0];
-    let eye = input::check_input(width, height, pixels, palette, indices, none, params);
-    let status = eye.status;
-    if status.number != 0 {
-        return Measured {
-            number: status.number,
-            place: status.place,
-            error: 0.0,
-        };
+    let given = Input {
+        width,
+        height,
+        pixels,
+        palette,
+        indices,
+        pinned: &palette[..0],
+        params,
+    };
+    if let Err(refusal) = given.check() {
+        return Measured::from(refusal);
     }
     Measured {
         number: 0,
         place: 0,
-        error: measuring::perceived_error(
-            pixels,
-            width as usize,
-            height as usize,
-            palette,
-            indices,
-            params,
-        ),
+        error: measuring::perceived_error(given),
     }
 }

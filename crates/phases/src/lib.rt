@@ -3,11 +3,11 @@
 
 ghost use Rattle.std.specs.Prelude.{◌≡◌, ◌<◌, ◌^◌, length};
 ghost use Rattle.tiling.specs.Tiling.{image, tiles};
-ghost use Rattle.search.specs.Shared.{shared, Ready};
+ghost use Rattle.search.specs.Shared.{shared_of, Ready};
 ghost use Rattle.phases.specs.Phases.{refined, walk_tile, walk_try, walk_tiles};
 
 use base::Index;
-use tiling::Tiling;
+use search::Setup;
 
 // The error so far, and the moves accepted in this pass.
 #[derive(Clone, Copy)]
@@ -17,24 +17,15 @@ pub struct Run {
 }
 
 // One tile on the whole image: its delta joins the error after it.
-fn walk_tile(
-    cpe: &mut [f64],
-    indices: &mut [Index],
-    pinned: &[u8],
-    inks: &[f64],
-    cpp: &[f64],
-    count: usize,
-    t: Tiling,
-    tile: usize,
-    run: Run,
-) -> Run
-    requires ready { Ready (shared t count pinned.now inks.now cpp.now) (image t) (length cpe.old) indices.old }
-    requires tile_bound { (tile < tiles t) × (run.accepted < 2 ^ 48) }
-    ensures { refined cpe.new indices.new result ≡ walk_tile (shared t count pinned.now inks.now cpp.now) tile (refined cpe.old indices.old run) }
+#[tactic(auto, using(crate::proofs::Laws::image_covers), unfolding(crate::specs::Phases::walk_tile))]
+fn walk_tile(cpe: &mut [f64], indices: &mut [Index], s: Setup<'_>, tile: usize, run: Run) -> Run
+    requires ready { Ready (shared_of s) (image s.tiling) (length cpe.old) indices.old }
+    requires tile_bound { (tile < tiles s.tiling) × (run.accepted < 2 ^ 48) }
+    ensures { refined cpe.new indices.new result ≡ walk_tile (shared_of s.entry) tile (refined cpe.old indices.old run) }
 {
-    let w = tiling::image_rect(t);
-    let q = tiling::tile_rect(t, tile);
-    let p = tile::refine_tile(cpe, indices, pinned, inks, cpp, count, t, w, q);
+    let w = s.tiling.image_rect();
+    let q = s.tiling.tile_rect(tile);
+    let p = tile::refine_tile(cpe, indices, s, w, q);
     Run {
         error: run.error + p.delta,
         accepted: run.accepted + p.accepted,
@@ -42,50 +33,41 @@ fn walk_tile(
 }
 
 // The tile, if it is one of the phase.
+#[tactic(auto, unfolding(crate::specs::Phases::walk_try))]
 fn walk_try(
     cpe: &mut [f64],
     indices: &mut [Index],
-    pinned: &[u8],
-    inks: &[f64],
-    cpp: &[f64],
-    count: usize,
-    t: Tiling,
+    s: Setup<'_>,
     phase: usize,
     tile: usize,
     run: Run,
 ) -> Run
-    requires ready { Ready (shared t count pinned.now inks.now cpp.now) (image t) (length cpe.old) indices.old }
-    requires tile_bound { (tile < tiles t) × (run.accepted < 2 ^ 48) }
-    ensures { refined cpe.new indices.new result ≡ walk_try (shared t count pinned.now inks.now cpp.now) phase tile (refined cpe.old indices.old run) }
+    requires ready { Ready (shared_of s) (image s.tiling) (length cpe.old) indices.old }
+    requires tile_bound { (tile < tiles s.tiling) × (run.accepted < 2 ^ 48) }
+    ensures { refined cpe.new indices.new result ≡ walk_try (shared_of s.entry) phase tile (refined cpe.old indices.old run) }
 {
-    if tiling::is_in_phase(t, phase, tile) {
-        return walk_tile(cpe, indices, pinned, inks, cpp, count, t, tile, run);
+    if s.tiling.is_in_phase(phase, tile) {
+        return walk_tile(cpe, indices, s, tile, run);
     }
     run
 }
 
 // The tiles of a phase in ascending number.
+#[tactic(auto, unfolding(crate::specs::Phases::walk_tiles))]
 pub fn walk_tiles(
     cpe: &mut [f64],
     indices: &mut [Index],
-    pinned: &[u8],
-    inks: &[f64],
-    cpp: &[f64],
-    count: usize,
-    t: Tiling,
+    s: Setup<'_>,
     phase: usize,
     run: Run,
 ) -> Run
-    requires ready { Ready (shared t count pinned.now inks.now cpp.now) (image t) (length cpe.old) indices.old }
+    requires ready { Ready (shared_of s) (image s.tiling) (length cpe.old) indices.old }
     requires accepted_bound { run.accepted < 2 ^ 40 }
-    ensures { refined cpe.new indices.new result ≡ walk_tiles (shared t count pinned.now inks.now cpp.now) phase (refined cpe.old indices.old run) }
+    ensures { refined cpe.new indices.new result ≡ walk_tiles (shared_of s.entry) phase (refined cpe.old indices.old run) }
 {
-    let end = tiling::tile_count(t);
-    let mut tile = 0;
     let mut n = run;
-    while tile < end {
-        n = walk_try(cpe, indices, pinned, inks, cpp, count, t, phase, tile, n);
-        tile += 1;
+    for tile in 0..s.tiling.tile_count() {
+        n = walk_try(cpe, indices, s, phase, tile, n);
     }
     n
 }

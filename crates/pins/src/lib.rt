@@ -12,33 +12,13 @@ pub struct Pins<'a> {
     pub width: usize,
 }
 
-// The work, on a plain slice: whether pixel (x, y) of an image of so many columns is pinned.
-fn is_set(pinned: &[u8], width: usize, x: usize, y: usize) -> bool
-    requires { MaskFits pinned.now width x y }
-    ensures looked_up { result ≡ pinned_at pinned.now width x y }
-{
-    if pinned.len() == 0 {
-        return false;
-    }
-    let i = y * width + x;
-    pinned[i] != 0
-}
-
 impl<'a> Pins<'a> {
-    // The lookup through the struct.
+    // Whether pixel (x, y) is pinned.
+    #[tactic(auto, unfolding(crate::specs::Pins::pinned_at))]
     pub fn is_pinned(self, x: usize, y: usize) -> bool
         requires { MaskFits self.pinned.now self.width x y }
         ensures { result ≡ pinned_at self.entry.pinned.now self.entry.width x y }
     {
-        is_set(self.pinned, self.width, x, y)
+        !self.pinned.is_empty() && self.pinned[y * self.width + x] != 0
     }
-}
-
-// The same with plain parameters, for the other crates: it makes the struct and looks up through it.
-pub fn is_pinned(pinned: &[u8], width: usize, x: usize, y: usize) -> bool
-    requires { MaskFits pinned.now width x y }
-    ensures { result ≡ pinned_at pinned.now width x y }
-{
-    let p = Pins { pinned, width };
-    p.is_pinned(x, y)
 }

@@ -1,14 +1,13 @@
 -- Amid the image each neighbour stands a step on from the pixel above and left, in the window and in the mask, so that places by steps are places
 -- by code: the neighbours of such a pixel are those of the middle of 3 × 3 pixels, moved. Assumes nothing.
 use mathlib.Core.Path.{◌≡◌, refl, sym, ap, ◌∙◌}
-use mathlib.Core.Logic.{◌≢◌, ⊎_elim}
-use mathlib.Core.Bool.{true, false, not}
+use mathlib.Core.Logic.{⊎_elim}
+use mathlib.Core.Bool.{Bool, true, false, not}
 use mathlib.Core.List.{List}
 use Prim.Native.Nat.{ℕ, ◌+◌, ◌-◌, ◌*◌, ◌<◌, ◌≤◌}
 use native.Mathlib.Omega.{arith}
 use native.Mathlib.Nat.{add-mul}
 use native.Mathlib.Numerals.{unary_clauses}
-use borrow.Author.Tests.{eq-eqb, ne_eqb}
 use lib.Dec.{eqb}
 use lib.IntN.{ℤ}
 use lib.ListN.{get_or, length}
@@ -19,12 +18,7 @@ use Rattle.base.proofs.GridLaws.{place_lt}
 use Rattle.base.proofs.Bounds.{index_lt, image_product}
 use Rattle.base.proofs.TableLaws.{get_d_table}
 use Rattle.neighbour.specs.Neighbour.{Small, offset_of, shifted_of, adjacent_at, adjacent_by, neighbour_of}
-use Rattle.neighbour.specs.declared.Offset.{Offset}
-use Rattle.neighbour.specs.declared.Offset.TheVariants.{By, Nothing}
-use Rattle.neighbour.specs.declared.Shift.{Shift}
-use Rattle.neighbour.specs.declared.Shift.TheVariants.{To, Out}
-use Rattle.neighbour.specs.declared.Adjacent.{Adjacent}
-use Rattle.neighbour.specs.declared.Adjacent.TheVariants.{Pixel, Outside}
+use Rattle.std.specs.Prelude.{Option, Some, None}
 use Rattle.neighbour.proofs.Laws.{stay, on, back, Smalls, all_small}
 use Rattle.pins.specs.Pins.{pinned_at}
 use Rattle.tiling.specs.declared.Tiling.{Tiling}
@@ -32,38 +26,39 @@ use Rattle.tiling.specs.Tiling.{image}
 use Rattle.tables.specs.declared.Tables.{Tables}
 use Rattle.tables.specs.Tables.{step_to, step_of}
 use Rattle.tables.proofs.AllEight.{Found, all_eight}
+use Rattle.places.specs.declared.Corner.{Corner}
 use Rattle.places.specs.declared.Spot.{Spot}
 use Rattle.places.specs.Places.{place_of, Findable, Amid, Spotted}
 use Rattle.places.proofs.Window.{place_index, window_limits, area_limit, neighbour_inside}
 
 -- ---- neighbours of a pixel amid the image are those of the middle of 3 × 3 pixels, moved
 
-abbrev shift_on : ℕ → Shift → Shift
-shift_on a (To m) = To (a + m)
-shift_on a Out = Out
+abbrev shift_on : ℕ → Option ℕ → Option ℕ
+shift_on a (Some m) = Some (a + m)
+shift_on a None = None
 
-abbrev pixel_on : ℕ → ℕ → Adjacent → Adjacent
-pixel_on a b (Pixel i j) = Pixel (a + i) (b + j)
-pixel_on a b Outside = Outside
+abbrev pixel_on : ℕ → ℕ → Option (ℕ × ℕ) → Option (ℕ × ℕ)
+pixel_on a b (Some (i, j)) = Some (a + i, b + j)
+pixel_on a b None = None
 
 along : (v n : ℕ) (d : ℤ) → Small d → 1 ≤ v → v + 1 < n → shifted_of v d n ≡ shift_on (v - 1) (shifted_of 1 d 3)
 along v n d s p q =
     ⊎_elim
-    (λ e. rw e (sym (back v n p (omega arith)) ∙ ap To (omega arith)))
+    (λ e. rw e (sym (back v n p (omega arith)) ∙ ap Some (omega arith)))
     (λ t. ⊎_elim
-    (λ e. rw e (sym (stay v n (omega arith)) ∙ ap To (omega arith)))
-    (λ e. rw e (sym (on v n q) ∙ ap To (omega arith)))
+    (λ e. rw e (sym (stay v n (omega arith)) ∙ ap Some (omega arith)))
+    (λ e. rw e (sym (on v n q) ∙ ap Some (omega arith)))
     t)
     s
 
-joins : (a b : ℕ) (p q : Shift) → adjacent_at (shift_on a p) (shift_on b q) ≡ pixel_on a b (adjacent_at p q)
-joins a b (To u) (To v) = refl
-joins a b (To u) Out = refl
-joins a b Out q = refl
+joins : (a b : ℕ) (p q : Option ℕ) → adjacent_at (shift_on a p) (shift_on b q) ≡ pixel_on a b (adjacent_at p q)
+joins a b (Some u) (Some v) = refl
+joins a b (Some u) None = refl
+joins a b None q = refl
 
-places : (x y w h : ℕ) (o : Offset) → Smalls o → 1 ≤ x → x + 1 < w → 1 ≤ y → y + 1 < h → adjacent_by o x y w h ≡ pixel_on (x - 1) (y - 1) (adjacent_by o 1 1 3 3)
-places x y w h (By dx dy) s a b c d = rw (along x w dx s.0 a b, along y h dy s.1 c d) (joins (x - 1) (y - 1) (shifted_of 1 dx 3) (shifted_of 1 dy 3))
-places x y w h Nothing s a b c d = refl
+places : (x y w h : ℕ) (o : Option (ℤ × ℤ)) → Smalls o → 1 ≤ x → x + 1 < w → 1 ≤ y → y + 1 < h → adjacent_by o x y w h ≡ pixel_on (x - 1) (y - 1) (adjacent_by o 1 1 3 3)
+places x y w h (Some (dx, dy)) s a b c d = rw (along x w dx s.0 a b, along y h dy s.1 c d) (joins (x - 1) (y - 1) (shifted_of 1 dx 3) (shifted_of 1 dy 3))
+places x y w h None s a b c d = refl
 
 neighbour_on : (code x y w h : ℕ) → 1 ≤ x → x + 1 < w → 1 ≤ y → y + 1 < h → neighbour_of code x y w h ≡ pixel_on (x - 1) (y - 1) (neighbour_of code 1 1 3 3)
 neighbour_on code x y w h a b c d = places x y w h (offset_of code) (all_small code) a b c d
@@ -79,38 +74,38 @@ steps_on x y x0 y0 i j w p q =
 pub record Stands (T : Tiling) (W : Rect) (code x y : ℕ) : Type 0 where
   pub nx : ℕ
   pub ny : ℕ
-  pub beside : neighbour_of code x y T.width T.height ≡ Pixel nx ny
+  pub beside : neighbour_of code x y T.width T.height ≡ Some (nx, ny)
   -- and its place in a window that has the pixel above and left is a step on from there
   pub place : W.x0 ≤ x - 1 → W.y0 ≤ y - 1 → place_of W nx ny ≡ place_of W (x - 1) (y - 1) + step_of W code
   pub mask : ny * T.width + nx ≡ place_of (image T) (x - 1) (y - 1) + step_of (image T) code
 
-image_step : (T : Tiling) (x y i j : ℕ) → (y + j) * T.width + (x + i) ≡ place_of (image T) x y + step_to (image T) (Pixel i j)
+image_step : (T : Tiling) (x y i j : ℕ) → (y + j) * T.width + (x + i) ≡ place_of (image T) x y + step_to (image T) (Some (i, j))
 unfolding image
 image_step T x y i j = simp unary_clauses (simp unary_clauses at (steps_on x y 0 0 i j T.width (omega arith) (omega arith)))
 
-pub stands : (T : Tiling) (W : Rect) (p : Spot) (code : ℕ) → code < 8 → Amid T W p → Stands T W code p.x p.y
+pub stands : (T : Tiling) (W : Rect) (x y : ℕ) (c : Corner) (code : ℕ) → code < 8 → Amid T W x y c → Stands T W code x y
 unfolding step_of
-stands T W p code h m = go (neighbour_of code 1 1 3 3) refl (all_eight code 1 1 3 3 h (omega arith) (omega arith) (omega arith) (omega arith))
+stands T W x y c code h m = go (neighbour_of code 1 1 3 3) refl (all_eight code 1 1 3 3 h (omega arith) (omega arith) (omega arith) (omega arith))
   where
-    go : (a : Adjacent) → neighbour_of code 1 1 3 3 ≡ a → Found a → Stands T W code p.x p.y
-    go Outside e f = absurd f
-    go (Pixel i j) e f =
+    go : (a : Option (ℕ × ℕ)) → neighbour_of code 1 1 3 3 ≡ a → Found a → Stands T W code x y
+    go None e f = absurd f
+    go (Some (i, j)) e f =
         record {
-          nx = p.x - 1 + i;
-          ny = p.y - 1 + j;
-          beside = neighbour_on code p.x p.y T.width T.height m.left m.right m.top m.bottom ∙ ap (pixel_on (p.x - 1) (p.y - 1)) e;
-          place = λ a b. rw e (steps_on (p.x - 1) (p.y - 1) W.x0 W.y0 i j (W.x1 - W.x0) a b);
-          mask = rw e (image_step T (p.x - 1) (p.y - 1) i j);
+          nx = x - 1 + i;
+          ny = y - 1 + j;
+          beside = neighbour_on code x y T.width T.height m.left m.right m.top m.bottom ∙ ap (pixel_on (x - 1) (y - 1)) e;
+          place = λ a b. rw e (steps_on (x - 1) (y - 1) W.x0 W.y0 i j (W.x1 - W.x0) a b);
+          mask = rw e (image_step T (x - 1) (y - 1) i j);
         }
 
 -- the same of the places that the code reads, with their bounds
-pub record Stepped (T : Tiling) (tab : Tables) (p : Spot) (code : ℕ) : Type 0 where
+pub record Stepped (T : Tiling) (tab : Tables) (p : Spot) (c : Corner) (code : ℕ) : Type 0 where
   pub nx : ℕ
   pub ny : ℕ
-  pub beside : neighbour_of code p.x p.y T.width T.height ≡ Pixel nx ny
-  pub place : p.from + get_or tab.steps code 0 ≡ place_of tab.w nx ny
+  pub beside : neighbour_of code p.x p.y T.width T.height ≡ Some (nx, ny)
+  pub place : c.window + get_or tab.steps code 0 ≡ place_of tab.w nx ny
   pub place_limit : place_of tab.w nx ny < max_pixels
-  pub mask : p.mark + get_or tab.marks code 0 ≡ ny * T.width + nx
+  pub mask : c.mask + get_or tab.marks code 0 ≡ ny * T.width + nx
   pub mask_bound : ny * T.width + nx < T.height * T.width
   pub mask_limit : T.height * T.width ≤ max_pixels
 
@@ -120,10 +115,10 @@ entry f code h e = rw e (get_d_table 8 f code 0 h)
 sum : {a b c d : ℕ} → a ≡ c → b ≡ d → a + b ≡ c + d
 sum p q = cc
 
-pub stepped : (pinned : List ℕ) (T : Tiling) (tab : Tables) (p : Spot) (code : ℕ) → Findable pinned T tab → Spotted T tab.w p → p.amid ≡ true → code < 8 → Stepped T tab p code
-stepped pinned T tab p code f s e h =
-    let m = s.around e in
-    let at = stands T tab.w p code h m in
+pub stepped : (pinned : List ℕ) (T : Tiling) (tab : Tables) (p : Spot) (c : Corner) (code : ℕ) → Findable pinned T tab → Spotted T tab.w p → p.amid ≡ Some c → code < 8 → Stepped T tab p c code
+stepped pinned T tab p c code f s e h =
+    let m : Amid T tab.w p.x p.y c = rw e at s.around in
+    let at = stands T tab.w p.x p.y c code h m in
     let i = neighbour_inside T tab.w code p.x p.y at.nx at.ny s.held at.beside in
     record {
       nx = at.nx;
@@ -137,10 +132,10 @@ stepped pinned T tab p code f s e h =
     }
 
 -- a mask of no bytes pins nothing, another what its byte says
-pub none_pinned : (mask : List ℕ) (width x y : ℕ) → length mask ≡ 0 → pinned_at mask width x y ≡ false
+pub none_pinned : (mask : List ℕ) (width x y : ℕ) → eqb (length mask) 0 ≡ true → pinned_at mask width x y ≡ false
 unfolding pinned_at
-none_pinned mask width x y e = rw (eq-eqb (length mask) 0 e)
+none_pinned mask width x y e = rw e
 
-pub byte_pins : (mask : List ℕ) (width x y i : ℕ) → i ≡ y * width + x → length mask ≢ 0 → pinned_at mask width x y ≡ not (eqb (get_or mask i 0) 0)
+pub byte_pins : (mask : List ℕ) (width x y i : ℕ) (b : Bool) → i ≡ y * width + x → eqb (length mask) 0 ≡ false → eqb (get_or mask i 0) 0 ≡ b → pinned_at mask width x y ≡ not b
 unfolding pinned_at
-byte_pins mask width x y i e n = rw (e, ne_eqb (length mask) 0 n)
+byte_pins mask width x y i b e n h = rw (← e, n, h)

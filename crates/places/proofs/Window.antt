@@ -1,6 +1,5 @@
 -- Where a pixel of a window stands, and where its neighbours lie. Assumes nothing.
 use mathlib.Core.Path.{◌≡◌, subst}
-use mathlib.Core.Bool.{true, false}
 use mathlib.Core.List.{List}
 use Prim.Native.Nat.{ℕ, ◌+◌, ◌-◌, ◌*◌, ◌<◌, ◌≤◌, min}
 use native.Mathlib.Omega.{arith}
@@ -12,14 +11,10 @@ use Rattle.base.proofs.Bounds.{index_lt, image_product}
 use Rattle.tiling.specs.declared.Tiling.{Tiling}
 use Rattle.tiling.specs.Tiling.{Limits, image}
 use Rattle.neighbour.specs.Neighbour.{neighbour_of}
-use Rattle.neighbour.specs.declared.Adjacent.TheVariants.{Pixel}
+use Rattle.std.specs.Prelude.{Some}
 use Rattle.neighbour.proofs.Laws.{Beside, Beyond, near_by}
 use Rattle.pins.specs.Pins.{MaskFits}
 use Rattle.places.specs.Places.{Held}
-
--- a truth that is none proves anything
-pub no : {A : Type 0} → false ≡ true → A
-no e = let z : ◌≡◌ {A = ℕ} 0 1 = cc in absurd (omega arith)
 
 -- ---- a pixel
 
@@ -70,7 +65,7 @@ pub held_inside : (T : Tiling) (W : Rect) (x y : ℕ) → Held T W x y → Insid
 held_inside T W x y h = beside_inside T W x y x y h (self x T.width h.in_x) (self y T.height h.in_y)
 
 -- a neighbour in the image lies in the window, and beside the pixel both ways
-pub neighbour_inside : (T : Tiling) (W : Rect) (code x y nx ny : ℕ) → Held T W x y → neighbour_of code x y T.width T.height ≡ Pixel nx ny →
+pub neighbour_inside : (T : Tiling) (W : Rect) (code x y nx ny : ℕ) → Held T W x y → neighbour_of code x y T.width T.height ≡ Some (nx, ny) →
     Inside W nx ny × Beside x nx T.width × Beside y ny T.height
 neighbour_inside T W code x y nx ny h e =
     let b = subst (Beyond x y T.width T.height) e (near_by code x y T.width T.height h.in_x h.in_y) in

@@ -1,17 +1,16 @@
 -- A SHAPE FOR SPEED, but for `Held`: nothing that a reader has to believe.
 -- The neighbours of a pixel by their places in the window.
-use Rattle.std.specs.Prelude.{◌≡◌, cond, true, List, ℕ, ◌+◌, ◌-◌, ◌*◌, ◌<◌, ◌≤◌, min, length}
+use Rattle.std.specs.Prelude.{◌≡◌, cond, List, ℕ, ◌+◌, ◌-◌, ◌*◌, ◌<◌, ◌≤◌, min, length, Option, Some, None, IfSome}
 use Rattle.base.specs.declared.Rect.{Rect}
 use Rattle.base.specs.Grid.{Within}
 use Rattle.base.specs.Loop.{table}
-use Rattle.neighbour.specs.declared.Adjacent.{Adjacent}
-use Rattle.neighbour.specs.declared.Adjacent.TheVariants.{Pixel, Outside}
 use Rattle.neighbour.specs.Neighbour.{neighbour_of}
 use Rattle.pins.specs.Pins.{pinned_at}
 use Rattle.tiling.specs.declared.Tiling.{Tiling}
 use Rattle.tiling.specs.Tiling.{Limits, image}
 use Rattle.tables.specs.declared.Tables.{Tables}
 use Rattle.tables.specs.Tables.{step_of}
+use Rattle.places.specs.declared.Corner.{Corner}
 use Rattle.places.specs.declared.Spot.{Spot}
 
 -- Pixel (x, y) lies in the image, and it and its neighbours in the image lie in the window.
@@ -28,13 +27,13 @@ abbrev pub place_of : Rect → ℕ → ℕ → ℕ
 place_of W x y = (y - W.y0) * (W.x1 - W.x0) + (x - W.x0)
 
 -- the neighbour, unless it is pinned
-abbrev pub unpinned : List ℕ → ℕ → Adjacent → Adjacent
-unpinned pinned width (Pixel nx ny) = cond (pinned_at pinned width nx ny) Outside (Pixel nx ny)
-unpinned pinned width Outside = Outside
+abbrev pub unpinned : List ℕ → ℕ → Option (ℕ × ℕ) → Option (ℕ × ℕ)
+unpinned pinned width (Some (nx, ny)) = cond (pinned_at pinned width nx ny) None (Some (nx, ny))
+unpinned pinned width None = None
 
-abbrev pub place_by : Rect → ℕ → Adjacent → ℕ
-place_by W own (Pixel nx ny) = place_of W nx ny
-place_by W own Outside = own
+abbrev pub place_by : Rect → ℕ → Option (ℕ × ℕ) → ℕ
+place_by W own (Some (nx, ny)) = place_of W nx ny
+place_by W own None = own
 
 -- the place of the neighbour by this code; one that is outside the image or pinned reads as the pixel itself
 unfoldable pub partner_place : List ℕ → Tiling → Rect → ℕ → ℕ → ℕ → ℕ
@@ -48,16 +47,16 @@ pub record Findable (pinned : List ℕ) (T : Tiling) (tab : Tables) : Type 0 whe
   pub steps : tab.steps ≡ table 8 (step_of tab.w)
   pub marks : tab.marks ≡ table 8 (step_of (image T))
 
--- all eight neighbours lie in the image, and the places of the pixel above and left are known
-pub record Amid (T : Tiling) (W : Rect) (p : Spot) : Type 0 where
-  pub left : 1 ≤ p.x
-  pub right : p.x + 1 < T.width
-  pub top : 1 ≤ p.y
-  pub bottom : p.y + 1 < T.height
-  pub window : p.from ≡ place_of W (p.x - 1) (p.y - 1)
-  pub mask : p.mark ≡ place_of (image T) (p.x - 1) (p.y - 1)
+-- all eight neighbours lie in the image, and c has the places of the pixel above and left
+pub record Amid (T : Tiling) (W : Rect) (x y : ℕ) (c : Corner) : Type 0 where
+  pub left : 1 ≤ x
+  pub right : x + 1 < T.width
+  pub top : 1 ≤ y
+  pub bottom : y + 1 < T.height
+  pub window : c.window ≡ place_of W (x - 1) (y - 1)
+  pub mask : c.mask ≡ place_of (image T) (x - 1) (y - 1)
 
 pub record Spotted (T : Tiling) (W : Rect) (p : Spot) : Type 0 where
   pub held : Held T W p.x p.y
   pub self : p.own ≡ place_of W p.x p.y
-  pub around : p.amid ≡ true → Amid T W p
+  pub around : IfSome p.amid (Amid T W p.x p.y)

@@ -22,7 +22,7 @@ use Rattle.kernel.specs.Kernel.{eye_kernels}
 use Rattle.kernel.proofs.KernelLaws.{length-eye_kernels}
 use Rattle.error.specs.Error.{Scene, scene, SceneFits, initial_error}
 use Rattle.field.specs.Field.{FieldFits, field_of}
-use Rattle.input.specs.Input.{Input, input, pixel_count, ink_count, input_tests}
+use Rattle.input.specs.Input.{Input, pixel_count, ink_count, input_tests}
 use Rattle.input.specs.Valid.{Valid}
 use Rattle.input.proofs.InputLaws.{eye_passes}
 use Rattle.input.proofs.Validity.{valid_iff}
@@ -109,9 +109,9 @@ module _ (I : Input) (T : Tiling) (inks cpp₀ cpp : List Float) (t : T ≡ tili
   unfolding scene_of inks_of
   scene_fits_as ok = rw (t, i) (scene_fits I ok)
 
-  pub field_fits : judge (input_tests I) ≡ accepted → length cpp₀ ≡ cpp_length → FieldFits T (scene I.pixels I.indices I.pinned inks) cpp
+  pub field_fits : judge (input_tests I) ≡ accepted → length cpp₀ ≡ cpp_length → FieldFits T T.width T.height (length cpp)
   unfolding cpp_of
-  field_fits ok e = record { limits = rw t (limits I ok); scene = scene_fits_as ok; store = rw k (cpp_len I ok cpp₀ e) }
+  field_fits ok e = record { limits = rw t (limits I ok); width = refl; height = refl; store = rw k (cpp_len I ok cpp₀ e) }
 
 -- ---- what was built
 
@@ -136,12 +136,7 @@ module _ (I : Input) (T : Tiling) (inks cpp₀ cpp cpe : List Float) (t : T ≡ 
 
 -- ---- what `prepare` asks for
 
--- the input as a tiling has its size
-abbrev pub sized : Input → Tiling → Input
-sized I T = input T.width T.height I.pixels I.palette I.indices I.pinned I.params
-
 -- a valid input with its tiling, and buffers as long as it asks
 pub ready_to_prepare : (I : Input) (T : Tiling) (cpe cpp inks : ℕ) → T ≡ tiling_of I → Valid I → cpe ≡ 3 * pixel_count I → cpp ≡ cpp_length → inks ≡ 3 * ink_count I →
-    ReadyToPrepare (sized I T) T inks cpp cpe
-unfolding tiling_of
-ready_to_prepare I T cpe cpp inks t v e p i = rw t (record { passes = (valid_iff I).1 v; tiling = refl; inks_length = i; cpp_len = p; cpe_length = e })
+    ReadyToPrepare I T inks cpp cpe
+ready_to_prepare I T cpe cpp inks t v e p i = record { passes = (valid_iff I).1 v; tiling = t; inks_length = i; cpp_len = p; cpe_length = e }

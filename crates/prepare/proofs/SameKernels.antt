@@ -22,8 +22,7 @@ use Rattle.color.specs.Values.{less_of, neg_of}
 use Rattle.kernel.proofs.KernelLaws.{lum_value, chroma_value}
 use Rattle.tiling.specs.declared.Tiling.{Tiling}
 use Rattle.tiling.specs.Tiling.{image, tile, tiles}
-use Rattle.neighbour.specs.declared.Adjacent.{Adjacent}
-use Rattle.neighbour.specs.declared.Adjacent.TheVariants.{Pixel, Outside}
+use Rattle.std.specs.Prelude.{Option, Some, None}
 use Rattle.neighbour.specs.Neighbour.{neighbour_of}
 use Rattle.neighbour.proofs.Laws.{Beyond, near_by}
 use Rattle.pins.specs.Pins.{pinned_at}
@@ -66,9 +65,9 @@ module _ (cpp cpp' : List Float) (k : Kernel2D) (e : SameKernel k cpp cpp') wher
   unfolding centre_of
   centre_same = e k.radius k.radius (omega arith) (omega arith)
 
-  value_same : (a : Adjacent) → Beyond k.radius k.radius (size k) (size k) a → value_of cpp k a ≡ value_of cpp' k a
-  value_same (Pixel i j) p = e i j (omega (arith, p.0.under)) (omega (arith, p.1.under))
-  value_same Outside p = refl
+  value_same : (a : Option (ℕ × ℕ)) → Beyond k.radius k.radius (size k) (size k) a → value_of cpp k a ≡ value_of cpp' k a
+  value_same (Some (i, j)) p = e i j (omega (arith, p.0.under)) (omega (arith, p.1.under))
+  value_same None p = refl
 
   beside_same : (code : ℕ) → beside_of cpp k code ≡ beside_of cpp' k code
   unfolding beside_of
@@ -122,26 +121,26 @@ module _ (T : Tiling) (cpp cpp' : List Float) (e : SameKernels T cpp cpp') where
     S' = shared T count pinned inks cpp'
 
     module _ (W : Rect) (x y : ℕ) where
-      swap_same : (f : List Float) (l : List ℕ) (s : Site) (code : ℕ) (b : Best) (n : Adjacent) →
+      swap_same : (f : List Float) (l : List ℕ) (s : Site) (code : ℕ) (b : Best) (n : Option (ℕ × ℕ)) →
           swap_with S W f l s code b (eligible S W l s.k n) ≡ swap_with S' W f l s code b (eligible S' W l s.k n)
-      swap_same f l s code b (Pixel nx ny) = go (eqb (index_at W l nx ny) s.k) (pinned_at pinned T.width nx ny)
+      swap_same f l s code b (Some (nx, ny)) = go (eqb (index_at W l nx ny) s.k) (pinned_at pinned T.width nx ny)
         where
-          go : (p q : Bool) → let n = cond p Outside (cond q Outside (Pixel nx ny)) in swap_with S W f l s code b n ≡ swap_with S' W f l s code b n
+          go : (p q : Bool) → let n : Option (ℕ × ℕ) = cond p None (cond q None (Some (nx, ny))) in swap_with S W f l s code b n ≡ swap_with S' W f l s code b n
           go true q = refl
           go false true = refl
           go false false = rw (gaps_same code)
-      swap_same f l s code b Outside = refl
+      swap_same f l s code b None = refl
 
       pub evaluate_same : (f : List Float) (l : List ℕ) (b : Best) → evaluate_of S W f l x y b ≡ evaluate_of S' W f l x y b
       unfolding evaluate_of swaps try_swap partner_of toggles
       evaluate_same f l b =
           rw centres_same (up_to_same 8 _ _ _ (λ code h b. swap_same f l (site_at W f l x y) code b (neighbour_of code x y T.width T.height)))
 
-      swapped_same : (n : Adjacent) (l : List ℕ) (f : List Float) → swap_kernels S W x y n l f ≡ swap_kernels S' W x y n l f
-      swapped_same (Pixel nx ny) l f =
+      swapped_same : (n : Option (ℕ × ℕ)) (l : List ℕ) (f : List Float) → swap_kernels S W x y n l f ≡ swap_kernels S' W x y n l f
+      swapped_same (Some (nx, ny)) l f =
           let a = less_of (ink_at S (index_at W l nx ny)) (ink_at S (index_at W l x y)) in
           rw (kernels_same W x y a f) (kernels_same W nx ny (neg_of a) _)
-      swapped_same Outside l f = refl
+      swapped_same None l f = refl
 
       moved_same : (m : Move) (l : List ℕ) (f : List Float) → moved_cpe S W x y m l f ≡ moved_cpe S' W x y m l f
       unfolding moved_cpe

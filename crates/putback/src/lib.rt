@@ -2,15 +2,16 @@
 #![tactic(auto)]
 
 ghost use Rattle.std.specs.Prelude.{◌≡◌};
+ghost use Rattle.std.specs.Result.{result_unwrap_or};
+ghost use Rattle.base.specs.Answer.{status_of};
 ghost use Rattle.progress.specs.Progress.{progress_of};
 ghost use Rattle.tile.specs.Tile.{state};
 ghost use Rattle.job.specs.Copy.{pixels};
 ghost use Rattle.job.specs.PutBack.{put_back, put_back_of};
 ghost use Rattle.job.specs.Boundary.{put_back_run};
 
-use base::{Index, Status};
+use base::{Index, Refusal};
 use job::{JobRecord, TileState};
-use words::Answer;
 
 // Write a copy back over its region, with the count and delta that work answered.
 fn put_back(
@@ -24,10 +25,10 @@ fn put_back(
     copy_indices: &[Index],
     accepted: u64,
     delta: f64,
-) -> Answer
-    ensures { put_back result.status result.record (pixels cpe.new indices.new) tile_states.new deltas.new ≡ put_back_of r tile (pixels cpe.old indices.old) tile_states.old deltas.old (state copy_cpe.now copy_indices.now (progress_of accepted delta)) }
+) -> Result<JobRecord, Refusal>
+    ensures { put_back (status_of result) (result_unwrap_or result r) (pixels cpe.new indices.new) tile_states.new deltas.new ≡ put_back_of r tile (pixels cpe.old indices.old) tile_states.old deltas.old (state copy_cpe.now copy_indices.now (progress_of accepted delta)) }
 {
-    let status = putbacktests::check_put_back(
+    putbacktests::check_put_back(
         r,
         tile,
         indices,
@@ -38,18 +39,15 @@ fn put_back(
         copy_indices,
         accepted,
         delta,
-    );
-    if status.number != 0 {
-        return Answer { status, record: r };
-    }
+    )?;
     let plan = r.plan;
     let i = tile as usize;
     regions::write_region(plan.tiling, i, indices, cpe, copy_cpe, copy_indices);
-    tile_states[i] = states::state_byte(TileState::Back);
+    tile_states[i] = u8::from(TileState::Back);
     deltas[i] = delta;
     let mut record = r;
     record.accepted = r.accepted + accepted;
-    Answer { status, record }
+    Ok(record)
 }
 
 // The same on the run that the record is for a C host.
@@ -64,16 +62,12 @@ pub fn put_back_run(
     copy_indices: &[Index],
     accepted: u64,
     delta: f64,
-) -> Status
-    ensures { put_back result «record».new (pixels cpe.new indices.new) tile_states.new deltas.new ≡ put_back_run «record».old tile (pixels cpe.old indices.old) tile_states.old deltas.old (state copy_cpe.now copy_indices.now (progress_of accepted delta)) }
+) -> Result<(), Refusal>
+    ensures { put_back (status_of result) «record».new (pixels cpe.new indices.new) tile_states.new deltas.new ≡ put_back_run «record».old tile (pixels cpe.old indices.old) tile_states.old deltas.old (state copy_cpe.now copy_indices.now (progress_of accepted delta)) }
 {
-    let run = words::read(record);
-    let status = run.status;
-    if status.number != 0 {
-        return status;
-    }
+    let r = words::read(record)?;
     let back = put_back(
-        run.record,
+        r,
         tile,
         indices,
         cpe,
@@ -83,6 +77,7 @@ pub fn put_back_run(
         copy_indices,
         accepted,
         delta,
-    );
-    written::leave(record, back)
+    )?;
+    written::rewrite(record, back);
+    Ok(())
 }

@@ -1,3 +1,3 @@
-mod Rects
+pub mod Rects
 pub mod RecordLaws
 pub mod RegionLaws

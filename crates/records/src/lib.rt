@@ -2,17 +2,17 @@
 // any record: what is multiplied has been found within its limits before.
 #![tactic(auto)]
 
-ghost use Rattle.std.specs.Prelude.{◌≡◌, not, ◌&&◌, [], ◌∷◌, ◌*◌, ◌≤◌, ◌<◌, leb, ltb, eqb, length, take};
+ghost use Rattle.std.specs.Prelude.{◌≡◌, not, ◌&&◌, [], ◌∷◌, ◌*◌, ◌≤◌, ◌<◌, leb, ltb, eqb, length};
+ghost use Rattle.base.specs.Answer.{status_of};
 ghost use Rattle.base.specs.Grid.{area};
-ghost use Rattle.base.specs.Limits.{max_side};
-ghost use Rattle.base.specs.Refusal.{test, accepted, next, judge_from};
+ghost use Rattle.base.specs.Refusal.{test, judge};
 ghost use Rattle.input.specs.Input.{length_test};
 ghost use Rattle.tiling.specs.Tiling.{Limits, tiles, region};
-ghost use Rattle.tiling.specs.Tiling as spec;
 ghost use Rattle.job.specs.Record.{radius_fits, record_tests, is_due, is_in};
 ghost use Rattle.job.specs.Work.{copy_test};
 
-use base::{Index, Rect, Status};
+use base::{Buffer, Index, MAX_INKS, MAX_PASSES, Refusal, refuse_if};
+use input::check_length;
 use job::{JobRecord, TileState};
 use tiling::Tiling;
 
@@ -20,13 +20,6 @@ fn is_radius(radius: usize) -> bool
     ensures { result ≡ radius_fits radius }
 {
     radius % 2 == 0 && fits::is_within(2, radius as u64, 32)
-}
-
-// The next line of refusal 12.
-fn limit(s: Status, fails: bool) -> Status
-    ensures { result ≡ next s (test fails 12 0) }
-{
-    base::next(s, fails, 12, 0)
 }
 
 // Unfinished with no pass remaining.
@@ -37,34 +30,29 @@ fn is_spent(r: JobRecord) -> bool
     !r.finished && r.done >= plan.allowed
 }
 
-// Refusal 12 of a plan: a record's first five tests.
-fn check_plan(r: JobRecord) -> Status
-    ensures { result ≡ judge_from accepted (take 5 (record_tests r)) }
-{
-    let plan = r.plan;
-    let t = plan.tiling;
-    let s1 = limit(base::ok(), !fits::is_size(t.width as u64, t.height as u64));
-    let s2 = limit(s1, !fits::is_within(1, plan.inks, base::MAX_INKS as u64));
-    let s3 = limit(s2, !is_radius(t.lum));
-    let s4 = limit(s3, !is_radius(t.chroma));
-    limit(s4, plan.allowed > base::MAX_PASSES as u64)
-}
-
 // Refusal 12 of a record.
-pub fn check_record(r: JobRecord) -> Status
-    ensures { result ≡ judge_from accepted (record_tests r) }
+#[tactic(auto, unfolding(job::specs::Record::record_tests, job::specs::Record::pixels_of, base::specs::Refusal::judge))]
+pub fn check_record(r: JobRecord) -> Result<(), Refusal>
+    ensures { status_of result ≡ judge (record_tests r) }
 {
-    let s = check_plan(r);
-    if s.number != 0 {
-        return s;
-    }
     let plan = r.plan;
     let t = plan.tiling;
+    refuse_if(
+        !fits::is_size(t.width as u64, t.height as u64),
+        Refusal::Record,
+    )?;
+    refuse_if(
+        !fits::is_within(1, plan.inks, MAX_INKS as u64),
+        Refusal::Record,
+    )?;
+    refuse_if(!is_radius(t.lum), Refusal::Record)?;
+    refuse_if(!is_radius(t.chroma), Refusal::Record)?;
+    refuse_if(plan.allowed > MAX_PASSES as u64, Refusal::Record)?;
+    refuse_if(r.done > plan.allowed, Refusal::Record)?;
+    refuse_if(r.phase > 3, Refusal::Record)?;
+    refuse_if(is_spent(r), Refusal::Record)?;
     let n = t.height * t.width;
-    let s1 = limit(s, r.done > plan.allowed);
-    let s2 = limit(s1, r.phase > 3);
-    let s3 = limit(s2, is_spent(r));
-    limit(s3, r.accepted > n as u64)
+    refuse_if(r.accepted > n as u64, Refusal::Record)
 }
 
 // Whether the image has this tile.
@@ -72,7 +60,7 @@ pub fn has_tile(t: Tiling, tile: u64) -> bool
     requires { Limits t }
     ensures { result ≡ ltb tile (tiles t) }
 {
-    tile < tiling::tile_count(t) as u64
+    tile < t.tile_count() as u64
 }
 
 // Whether it is this phase's turn.
@@ -82,100 +70,68 @@ pub fn is_due(r: JobRecord, tile: u64) -> bool
 {
     let plan = r.plan;
     let t = plan.tiling;
-    has_tile(t, tile) && tiling::is_in_phase(t, r.phase as usize, tile as usize)
+    has_tile(t, tile) && t.is_in_phase(r.phase as usize, tile as usize)
 }
 
-// Refusals 16 and 13 of take and put back.
-pub fn check_turn(s: Status, r: JobRecord, tile: u64) -> Status
-    requires { s.number ≡ 0 → Limits r.plan.tiling }
-    ensures { result ≡ judge_from s (test r.finished 16 0 ∷ test (not (is_due r tile)) 13 0 ∷ []) }
+// Refusals 16 and 13 of the calls on a tile in its turn.
+#[tactic(auto, unfolding(base::specs::Refusal::judge))]
+pub fn check_turn(r: JobRecord, tile: u64) -> Result<(), Refusal>
+    requires { Limits r.plan.tiling }
+    ensures { status_of result ≡ judge (test r.finished 16 0 ∷ test (not (is_due r tile)) 13 0 ∷ []) }
 {
-    if s.number != 0 {
-        return s;
-    }
-    let s1 = base::next(s, r.finished, 16, 0);
-    base::next(s1, !is_due(r, tile), 13, 0)
-}
-
-fn rect_size(r: Rect) -> usize
-    requires x0_le_x1 { (r.x0 ≤ r.x1) × (r.x1 ≤ max_side) }
-    requires y0_le_y1 { (r.y0 ≤ r.y1) × (r.y1 ≤ max_side) }
-    ensures { result ≡ area r }
-{
-    (r.y1 - r.y0) * (r.x1 - r.x0)
-}
-
-// Pixels of a tile.
-pub fn tile_size(t: Tiling, tile: usize) -> usize
-    requires { Limits t × (tile < tiles t) }
-    ensures { result ≡ area (spec.tile t tile) }
-{
-    rect_size(tiling::tile_rect(t, tile))
-}
-
-// Pixels of a tile's region.
-fn region_size(t: Tiling, tile: usize) -> usize
-    requires { Limits t × (tile < tiles t) }
-    ensures { result ≡ area (region t tile) }
-{
-    rect_size(tiling::region_rect(t, tile))
+    refuse_if(r.finished, Refusal::Finished)?;
+    refuse_if(!is_due(r, tile), Refusal::NotDue)
 }
 
 // Refusal 3, and 11 of `cpe` and the tile states.
+#[tactic(auto, unfolding(base::specs::Refusal::judge))]
 pub fn check_image(
-    s: Status,
     t: Tiling,
-    indices_len: usize,
-    cpe_len: usize,
-    tile_states_len: usize,
-) -> Status
-    requires { s.number ≡ 0 → Limits t }
-    ensures { result ≡ judge_from s (test (not (eqb indices_len (t.height * t.width))) 3 0 ∷ length_test 1 cpe_len (3 * (t.height * t.width)) ∷ length_test 4 tile_states_len (tiles t) ∷ []) }
+    indices: &[Index],
+    cpe: &[f64],
+    tile_states: &[u8],
+) -> Result<(), Refusal>
+    requires { Limits t }
+    ensures { status_of result ≡ judge (test (not (eqb (length indices.now) (t.height * t.width))) 3 0 ∷ length_test 1 (length cpe.now) (3 * (t.height * t.width)) ∷ length_test 4 (length tile_states.now) (tiles t) ∷ []) }
 {
-    if s.number != 0 {
-        return s;
-    }
     let n = t.height * t.width;
-    let s1 = base::next(s, indices_len != n, 3, 0);
-    let s2 = input::next_length(s1, 1, cpe_len, 3 * n);
-    input::next_length(s2, 4, tile_states_len, tiling::tile_count(t))
+    refuse_if(indices.len() != n, Refusal::Indices)?;
+    check_length(Buffer::Cpe, cpe.len(), 3 * n)?;
+    check_length(Buffer::TileStates, tile_states.len(), t.tile_count())
 }
 
 // Refusal 11 of the copies of a tile's region.
+#[tactic(auto, unfolding(base::specs::Refusal::judge))]
 pub fn check_copy(
-    s: Status,
     t: Tiling,
     tile: usize,
-    copy_cpe_len: usize,
-    copy_indices_len: usize,
-) -> Status
-    requires { s.number ≡ 0 → Limits t × (tile < tiles t) }
-    ensures { result ≡ judge_from s (length_test 6 copy_cpe_len (3 * area (region t tile)) ∷ length_test 7 copy_indices_len (area (region t tile)) ∷ []) }
+    copy_cpe: &[f64],
+    copy_indices: &[Index],
+) -> Result<(), Refusal>
+    requires { Limits t × (tile < tiles t) }
+    ensures { status_of result ≡ judge (length_test 6 (length copy_cpe.now) (3 * area (region t tile)) ∷ length_test 7 (length copy_indices.now) (area (region t tile)) ∷ []) }
 {
-    if s.number != 0 {
-        return s;
-    }
-    let n = region_size(t, tile);
-    let s1 = input::next_length(s, 6, copy_cpe_len, 3 * n);
-    input::next_length(s1, 7, copy_indices_len, n)
+    let region = t.region_rect(tile);
+    let n = region.area();
+    check_length(Buffer::CopyCpe, copy_cpe.len(), 3 * n)?;
+    check_length(Buffer::CopyIndices, copy_indices.len(), n)
 }
 
 // Refusal 14: a tile that is not in this state.
-pub fn check_state(s: Status, tile_states: &[u8], tile: usize, wanted: TileState) -> Status
-    requires { s.number ≡ 0 → tile < length tile_states.now }
-    ensures { result ≡ next s (test (not (is_in wanted tile_states.now tile)) 14 0) }
+#[tactic(auto, unfolding(base::specs::Refusal::judge))]
+pub fn check_state(tile_states: &[u8], tile: usize, wanted: TileState) -> Result<(), Refusal>
+    requires { tile < length tile_states.now }
+    ensures { status_of result ≡ judge (test (not (is_in wanted tile_states.now tile)) 14 0 ∷ []) }
 {
-    if s.number != 0 {
-        return s;
-    }
-    base::next(s, !states::is_in(tile_states[tile], wanted), 14, 0)
+    refuse_if(!states::is_in(tile_states[tile], wanted), Refusal::State)
 }
 
 // Refusal 6 of a copy.
-pub fn check_named(s: Status, r: JobRecord, copy_indices: &[Index]) -> Status
-    ensures { result ≡ next s (copy_test r copy_indices.now) }
+#[tactic(auto, unfolding(job::specs::Work::copy_test, base::specs::Refusal::judge))]
+pub fn check_named(r: JobRecord, copy_indices: &[Index]) -> Result<(), Refusal>
+    ensures { status_of result ≡ judge (copy_test r copy_indices.now ∷ []) }
 {
     let plan = r.plan;
     let place = fits::first_unnamed(copy_indices, plan.inks as usize);
-    base::next(s, place < copy_indices.len(), 6, place as u64)
+    refuse_if(place < copy_indices.len(), Refusal::Index(place as u64))
 }

@@ -3,23 +3,12 @@
 
 ghost use Rattle.std.specs.Prelude.{◌≡◌};
 ghost use Rattle.input.specs.Input.{input};
-ghost use Rattle.refine.specs.Refine.{refinement, refused_stats, refine_of};
+ghost use Rattle.refine.specs.Refine.{refinement, refine_of};
 
 use accepted::DbsStats;
-use base::{Index, Status};
+use base::Index;
 use eye::DbsParams;
-
-fn refused(s: Status) -> DbsStats
-    ensures { result ≡ refused_stats s }
-{
-    DbsStats {
-        number: s.number,
-        place: s.place,
-        passes: 0,
-        initial_error: 0.0,
-        final_error: 0.0,
-    }
-}
+use input::Input;
 
 // Refine the indices in place, by the plain walk over the whole image.
 pub fn refine(
@@ -38,25 +27,26 @@ pub fn refine(
 ) -> DbsStats
     ensures { refinement result indices.new cpe.new cpp.new accepted_per_pass.new inks.new ≡ refine_of (input width height pixels.now palette.now indices.old pinned.now params) max_passes cpe.old cpp.old accepted_per_pass.old inks.old }
 {
-    let s = sizes::check_sizes(width, height, pixels, palette, indices, pinned, params);
-    let status = sizes::check_refine(
-        s,
-        max_passes,
-        cpe.len(),
-        cpp.len(),
-        accepted_per_pass.len(),
-        inks.len(),
-    );
-    if status.number != 0 {
-        return refused(status);
-    }
+    let given = Input {
+        width,
+        height,
+        pixels,
+        palette,
+        indices,
+        pinned,
+        params,
+    };
+    let tiling = match sizes::check_refine(given, max_passes, cpe, cpp, accepted_per_pass, inks) {
+        Ok(tiling) => tiling,
+        Err(refusal) => return DbsStats::from(refusal),
+    };
     accepted::refine_accepted(
         pixels,
         palette,
         indices,
         pinned,
         params,
-        s.tiling,
+        tiling,
         cpe,
         cpp,
         accepted_per_pass,

@@ -24,10 +24,10 @@ pub fn copy_region(
     requires copy_cpe_len { (length copy_cpe.old ≡ 3 * area (region t tile)) × (length copy_indices.old ≡ area (region t tile)) }
     ensures { pixels copy_cpe.new copy_indices.new ≡ copy_of t tile (pixels cpe.now indices.now) }
 {
-    let image = tiling::image_rect(t);
-    let region = tiling::region_rect(t, tile);
-    copy::copy_cpe(cpe, image, copy_cpe, region, region);
-    copy::copy_indices(indices, image, copy_indices, region, region);
+    let image = t.image_rect();
+    let region = t.region_rect(tile);
+    copy::copy_part(3, cpe, image, copy_cpe, region, region);
+    copy::copy_part(1, indices, image, copy_indices, region, region);
 }
 
 // The copies over the region of a tile.
@@ -44,8 +44,8 @@ pub fn write_region(
     requires copy_cpe_len { (length copy_cpe.now ≡ 3 * area (region t tile)) × (length copy_indices.now ≡ area (region t tile)) }
     ensures { pixels cpe.new indices.new ≡ written_back t tile (pixels cpe.old indices.old) (pixels copy_cpe.now copy_indices.now) }
 {
-    let image = tiling::image_rect(t);
-    let region = tiling::region_rect(t, tile);
-    copy::copy_cpe(copy_cpe, region, cpe, image, region);
-    copy::copy_indices(copy_indices, region, indices, image, region);
+    let image = t.image_rect();
+    let region = t.region_rect(tile);
+    copy::copy_part(3, copy_cpe, region, cpe, image, region);
+    copy::copy_part(1, copy_indices, region, indices, image, region);
 }

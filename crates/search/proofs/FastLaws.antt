@@ -11,7 +11,7 @@ use lib.ListN.{get_or, length}
 use lib.Ieee.{Float, nan}
 use Rattle.base.specs.declared.Rect.{Rect}
 use Rattle.base.specs.Limits.{max_inks}
-use Rattle.base.specs.Grid.{Inside, width, height, cell}
+use Rattle.base.specs.Grid.{Inside, cell}
 use Rattle.base.specs.Loop.{up_to, table}
 use Rattle.base.proofs.LoopLaws.{up_to_same}
 use Rattle.base.proofs.GridLaws.{place_lt}
@@ -19,8 +19,7 @@ use Rattle.base.proofs.TableLaws.{get_d_table, length-table}
 use Rattle.color.specs.declared.YyCxCz.{YyCxCz}
 use Rattle.color.specs.Values.{values_at, less_of}
 use Rattle.neighbour.specs.Neighbour.{neighbour_of}
-use Rattle.neighbour.specs.declared.Adjacent.{Adjacent}
-use Rattle.neighbour.specs.declared.Adjacent.TheVariants.{Pixel, Outside}
+use Rattle.std.specs.Prelude.{Option, Some, None}
 use Rattle.pins.specs.Pins.{pinned_at}
 use Rattle.tiling.specs.declared.Tiling.{Tiling}
 use Rattle.cpp.specs.Kernel.{lum_kernel, chroma_kernel}
@@ -69,14 +68,14 @@ module _ {S : Shared} {W : Rect} {cpe : List Float} {indices : List ℕ} (r : Re
   unfolding partner_place
   place_fits code = go (neighbour_of code x y S.tiling.width S.tiling.height) refl
     where
-      at : (nx ny : ℕ) (t : Bool) → Inside W nx ny → SwapFits cpe indices S.inks (place_by W (place_of W x y) (cond t Outside (Pixel nx ny)))
+      at : (nx ny : ℕ) (t : Bool) → Inside W nx ny → SwapFits cpe indices S.inks (place_by W (place_of W x y) (cond t None (Some (nx, ny))))
       at nx ny true i = own_fits
       at nx ny false i = pixel_fits nx ny i
 
-      go : (a : Adjacent) → neighbour_of code x y S.tiling.width S.tiling.height ≡ a →
+      go : (a : Option (ℕ × ℕ)) → neighbour_of code x y S.tiling.width S.tiling.height ≡ a →
           SwapFits cpe indices S.inks (place_by W (place_of W x y) (unpinned S.pinned S.tiling.width a))
-      go Outside e = own_fits
-      go (Pixel nx ny) e = at nx ny (pinned_at S.pinned S.tiling.width nx ny) (neighbour_inside S.tiling W code x y nx ny held e).0
+      go None e = own_fits
+      go (Some (nx, ny)) e = at nx ny (pinned_at S.pinned S.tiling.width nx ny) (neighbour_inside S.tiling W code x y nx ny held e).0
 
   pub all_fit : (places : List ℕ) → places ≡ table 8 (partner_place S.pinned S.tiling W x y) → AllFit cpe indices S.inks places
   all_fit places e = rw e (record { eight = length-table 8 _; each = λ code h. rw (get_d_table 8 (partner_place S.pinned S.tiling W x y) code 0 h) (place_fits code) })
@@ -98,24 +97,24 @@ module _ (S : Shared) (W : Rect) (cpe : List Float) (indices : List ℕ) (x y : 
   swap_own code b = rw (eq-eqb (get_or indices (place_of W x y) 0) s.k (sym (own ∙ index_by W indices x y)))
 
   -- nor is one with a pinned pixel, whatever its ink
-  swap_pinned : (code : ℕ) (b : Best) (q : Bool) → b ≡ swap_with S W cpe indices s code b (cond q Outside Outside)
+  swap_pinned : (code : ℕ) (b : Best) (q : Bool) → b ≡ swap_with S W cpe indices s code b (cond q None None)
   swap_pinned code b true = refl
   swap_pinned code b false = refl
 
   swap_free : (code : ℕ) (b : Best) (nx ny : ℕ) →
       swap_by S.inks cpe indices (gaps S.cpp S.tiling code) s (place_of W nx ny) code b
-      ≡ swap_with S W cpe indices s code b (cond (eqb (index_at W indices nx ny) s.k) Outside (Pixel nx ny))
+      ≡ swap_with S W cpe indices s code b (cond (eqb (index_at W indices nx ny) s.k) None (Some (nx, ny)))
   unfolding swap_by
   swap_free code b nx ny = rw (← index_by W indices nx ny) (go (eqb (index_at W indices nx ny) s.k))
     where
       go : (q : Bool) → cond q b (better_of b (swap_cost (gaps S.cpp S.tiling code) (less_of (ink_at S (index_at W indices nx ny)) (ink_at S s.k)) s.c (values_at cpe (3 * place_of W nx ny))) (Swap code))
-          ≡ swap_with S W cpe indices s code b (cond q Outside (Pixel nx ny))
+          ≡ swap_with S W cpe indices s code b (cond q None (Some (nx, ny)))
       go true = refl
       go false = rw (← cpe_values W cpe nx ny)
 
   swap_with_lem : (code : ℕ) (b : Best) (nx ny : ℕ) (t : Bool) →
-      swap_by S.inks cpe indices (gaps S.cpp S.tiling code) s (place_by W (place_of W x y) (cond t Outside (Pixel nx ny))) code b
-      ≡ swap_with S W cpe indices s code b (cond (eqb (index_at W indices nx ny) s.k) Outside (cond t Outside (Pixel nx ny)))
+      swap_by S.inks cpe indices (gaps S.cpp S.tiling code) s (place_by W (place_of W x y) (cond t None (Some (nx, ny)))) code b
+      ≡ swap_with S W cpe indices s code b (cond (eqb (index_at W indices nx ny) s.k) None (cond t None (Some (nx, ny))))
   swap_with_lem code b nx ny true = swap_own code b ∙ swap_pinned code b (eqb (index_at W indices nx ny) s.k)
   swap_with_lem code b nx ny false = swap_free code b nx ny
 
@@ -123,10 +122,10 @@ module _ (S : Shared) (W : Rect) (cpe : List Float) (indices : List ℕ) (x y : 
   unfolding try_swap partner_of partner_place
   one_swap code b = go (neighbour_of code x y S.tiling.width S.tiling.height)
     where
-      go : (a : Adjacent) → swap_by S.inks cpe indices (gaps S.cpp S.tiling code) s (place_by W (place_of W x y) (unpinned S.pinned S.tiling.width a)) code b
+      go : (a : Option (ℕ × ℕ)) → swap_by S.inks cpe indices (gaps S.cpp S.tiling code) s (place_by W (place_of W x y) (unpinned S.pinned S.tiling.width a)) code b
           ≡ swap_with S W cpe indices s code b (eligible S W indices s.k a)
-      go Outside = swap_own code b
-      go (Pixel nx ny) = swap_with_lem code b nx ny (pinned_at S.pinned S.tiling.width nx ny)
+      go None = swap_own code b
+      go (Some (nx, ny)) = swap_with_lem code b nx ny (pinned_at S.pinned S.tiling.width nx ny)
 
   swaps_by_places : (tab : Tables) → tab ≡ tables_of S.cpp S.tiling W → (places : List ℕ) → places ≡ table 8 (partner_place S.pinned S.tiling W x y) → (b : Best) →
       swaps_by S.inks cpe indices tab places s 8 b ≡ swaps S W cpe indices x y s b

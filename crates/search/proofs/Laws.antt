@@ -11,8 +11,7 @@ use lib.Ieee.{Float, lt}
 use Rattle.base.specs.declared.Rect.{Rect}
 use Rattle.base.proofs.LoopLaws.{up_to_keeps, up_to_same}
 use Rattle.neighbour.specs.Neighbour.{neighbour_of}
-use Rattle.neighbour.specs.declared.Adjacent.{Adjacent}
-use Rattle.neighbour.specs.declared.Adjacent.TheVariants.{Pixel, Outside}
+use Rattle.std.specs.Prelude.{Option, Some, None}
 use Rattle.pins.specs.Pins.{pinned_at}
 use Rattle.search.specs.declared.Best.{Best}
 use Rattle.search.specs.declared.Site.{Site}
@@ -43,10 +42,10 @@ module _ (P : Best → Type 0) (S : Shared) (W : Rect) (cpe : List Float) (indic
       better_keeps t _ (Toggle j) q (record { named = h; other = eqb-false j (index_at W indices x y) e })))
       b p
 
-  swap_keeps : (code : ℕ) → code < 8 → (a : Adjacent) → partner_of S W indices x y (index_at W indices x y) code ≡ a → (b : Best) → P b →
+  swap_keeps : (code : ℕ) → code < 8 → (a : Option (ℕ × ℕ)) → partner_of S W indices x y (index_at W indices x y) code ≡ a → (b : Best) → P b →
       P (swap_with S W cpe indices (site_at W cpe indices x y) code b a)
-  swap_keeps code h Outside e b p = p
-  swap_keeps code h (Pixel nx ny) e b p = better_keeps b _ (Swap code) p (record { named = h; nx = nx; ny = ny; partner = e })
+  swap_keeps code h None e b p = p
+  swap_keeps code h (Some (nx, ny)) e b p = better_keeps b _ (Swap code) p (record { named = h; nx = nx; ny = ny; partner = e })
 
   swaps_keep : (b : Best) → P b → P (swaps S W cpe indices x y (site_at W cpe indices x y) b)
   unfolding swaps try_swap
@@ -74,18 +73,18 @@ module _ (S : Shared) (W : Rect) (cpe : List Float) (indices : List ℕ) (x y : 
 module _ (S : Shared) (W W' : Rect) (cpe cpe' : List Float) (indices indices' : List ℕ) (x y : ℕ)
     (index_same : index_at W indices x y ≡ index_at W' indices' x y)
     (cpe_same : cpe_at W cpe x y ≡ cpe_at W' cpe' x y)
-    (beside_same : (code nx ny : ℕ) → neighbour_of code x y S.tiling.width S.tiling.height ≡ Pixel nx ny →
+    (beside_same : (code nx ny : ℕ) → neighbour_of code x y S.tiling.width S.tiling.height ≡ Some (nx, ny) →
     (index_at W indices nx ny ≡ index_at W' indices' nx ny) × (cpe_at W cpe nx ny ≡ cpe_at W' cpe' nx ny)) where
   site_same : site_at W cpe indices x y ≡ site_at W' cpe' indices' x y
   site_same = rw (index_same, cpe_same)
 
-  swap_same : (s : Site) (code : ℕ) (b : Best) (a : Adjacent) → neighbour_of code x y S.tiling.width S.tiling.height ≡ a →
+  swap_same : (s : Site) (code : ℕ) (b : Best) (a : Option (ℕ × ℕ)) → neighbour_of code x y S.tiling.width S.tiling.height ≡ a →
       swap_with S W cpe indices s code b (eligible S W indices s.k a) ≡ swap_with S W' cpe' indices' s code b (eligible S W' indices' s.k a)
-  swap_same s code b Outside e = refl
-  swap_same s code b (Pixel nx ny) e =
+  swap_same s code b None e = refl
+  swap_same s code b (Some (nx, ny)) e =
       rw (beside_same code nx ny e).0 (go (eqb (index_at W' indices' nx ny) s.k) (pinned_at S.pinned S.tiling.width nx ny))
     where
-      go : (p q : Bool) → let a = cond p Outside (cond q Outside (Pixel nx ny)) in swap_with S W cpe indices s code b a ≡ swap_with S W' cpe' indices' s code b a
+      go : (p q : Bool) → let a : Option (ℕ × ℕ) = cond p None (cond q None (Some (nx, ny))) in swap_with S W cpe indices s code b a ≡ swap_with S W' cpe' indices' s code b a
       go true q = refl
       go false true = refl
       go false false = rw ((beside_same code nx ny e).0, (beside_same code nx ny e).1)

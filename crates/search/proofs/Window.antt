@@ -13,8 +13,8 @@ use Rattle.base.specs.Limits.{max_side}
 use Rattle.base.specs.Grid.{width, area, place, cell, Inside}
 use Rattle.base.proofs.GridLaws.{place_lt}
 use Rattle.neighbour.specs.Neighbour.{neighbour_of}
-use Rattle.neighbour.specs.declared.Adjacent.{Adjacent}
-use Rattle.neighbour.specs.declared.Adjacent.TheVariants.{Pixel, Outside}
+use Rattle.std.specs.Prelude.{Option, Some, None}
+use Rattle.std.proofs.lemmas.Option.{some_pair_parts}
 use Rattle.pins.specs.Pins.{pinned_at, MaskFits}
 use Rattle.color.specs.Values.{values_at}
 use Rattle.places.proofs.Window.{window_limits, mask_fits_lem}
@@ -50,26 +50,20 @@ module _ {S : Shared} {W : Rect} {n : ℕ} {indices : List ℕ} (r : Ready S W n
 -- ---- the neighbour that a swap is made with
 
 module _ (S : Shared) (W : Rect) (indices : List ℕ) (k nx ny : ℕ) where
-  none : {A : Type 0} → Outside ≡ Pixel nx ny → A
-  none e = let z : ◌≡◌ {A = ℕ} 0 1 = cc in absurd (omega arith)
-
-  is_eligible : (a : Adjacent) → eligible S W indices k a ≡ Pixel nx ny →
-      (a ≡ Pixel nx ny) × (eqb (index_at W indices nx ny) k ≡ false) × (pinned_at S.pinned S.tiling.width nx ny ≡ false)
-  is_eligible Outside e = none e
-  is_eligible (Pixel u v) e = go (eqb (index_at W indices u v) k) (pinned_at S.pinned S.tiling.width u v) refl refl e
+  is_eligible : (a : Option (ℕ × ℕ)) → eligible S W indices k a ≡ Some (nx, ny) →
+      (a ≡ Some (nx, ny)) × (eqb (index_at W indices nx ny) k ≡ false) × (pinned_at S.pinned S.tiling.width nx ny ≡ false)
+  is_eligible None e = cc
+  is_eligible (Some (u, v)) e = go (eqb (index_at W indices u v) k) (pinned_at S.pinned S.tiling.width u v) refl refl e
     where
       go : (p q : Bool) → eqb (index_at W indices u v) k ≡ p → pinned_at S.pinned S.tiling.width u v ≡ q →
-          cond p Outside (cond q Outside (Pixel u v)) ≡ Pixel nx ny →
-          (Pixel u v ≡ Pixel nx ny) × (eqb (index_at W indices nx ny) k ≡ false) × (pinned_at S.pinned S.tiling.width nx ny ≡ false)
-      go true q f g h = none h
-      go false true f g h = none h
-      go false false f g h =
-          let a : u ≡ nx = cc in
-          let b : v ≡ ny = cc in
-          rw (← a, ← b) (refl, f, g)
+          cond {A = Option (ℕ × ℕ)} p None (cond q None (Some (u, v))) ≡ Some (nx, ny) →
+          (◌≡◌ {A = Option (ℕ × ℕ)} (Some (u, v)) (Some (nx, ny))) × (eqb (index_at W indices nx ny) k ≡ false) × (pinned_at S.pinned S.tiling.width nx ny ≡ false)
+      go true q f g h = cc
+      go false true f g h = cc
+      go false false f g h = let p = some_pair_parts u nx v ny h in rw (← p.0, ← p.1) (refl, f, g)
 
 pub partner_is : (S : Shared) (W : Rect) (indices : List ℕ) (x y k code nx ny : ℕ) →
-    partner_of S W indices x y k code ≡ Pixel nx ny → Partner S W indices x y k code nx ny
+    partner_of S W indices x y k code ≡ Some (nx, ny) → Partner S W indices x y k code nx ny
 unfolding partner_of
 partner_is S W indices x y k code nx ny e =
     let p = is_eligible S W indices k nx ny (neighbour_of code x y S.tiling.width S.tiling.height) e in

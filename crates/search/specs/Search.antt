@@ -1,12 +1,10 @@
 -- The best move of one pixel (document 01: 'At an unpinned dot of ink k it weighs toggles by ascending ink j ≠ k, then swaps ..';
 -- 'Costs are the two formulas of `refine_tile`'). It reads the window W of the image: `cpe` and `indices`.
-use Rattle.std.specs.Prelude.{◌≡◌, ◌≢◌, cond, false, List, ℕ, ◌*◌, ◌<◌, eqb, Float}
+use Rattle.std.specs.Prelude.{◌≡◌, ◌≢◌, cond, false, List, ℕ, ◌*◌, ◌<◌, eqb, Float, Option, Some, None}
 use Rattle.std.specs.Float.Ieee.{lt, neg}
 use Rattle.base.specs.declared.Rect.{Rect}
 use Rattle.base.specs.Loop.{up_to}
 use Rattle.color.specs.declared.YyCxCz.{YyCxCz}
-use Rattle.neighbour.specs.declared.Adjacent.{Adjacent}
-use Rattle.neighbour.specs.declared.Adjacent.TheVariants.{Pixel, Outside}
 use Rattle.neighbour.specs.Neighbour.{neighbour_of}
 use Rattle.pins.specs.Pins.{pinned_at}
 use Rattle.search.specs.declared.Best.{Best}
@@ -42,20 +40,20 @@ unfoldable pub toggles : Shared → Site → Best → Best
 toggles S s b = up_to (try_toggle S.inks (centres S.cpp S.tiling) s) S.count b
 
 -- whether a swap is weighed: 'skipping neighbours outside, pinned or of ink k'
-abbrev pub eligible : Shared → Rect → List ℕ → ℕ → Adjacent → Adjacent
-eligible S W indices k (Pixel nx ny) =
-    cond (eqb (index_at W indices nx ny) k) Outside (cond (pinned_at S.pinned S.tiling.width nx ny) Outside (Pixel nx ny))
-eligible S W indices k Outside = Outside
+abbrev pub eligible : Shared → Rect → List ℕ → ℕ → Option (ℕ × ℕ) → Option (ℕ × ℕ)
+eligible S W indices k (Some (nx, ny)) =
+    cond (eqb (index_at W indices nx ny) k) None (cond (pinned_at S.pinned S.tiling.width nx ny) None (Some (nx, ny)))
+eligible S W indices k None = None
 
 -- the neighbour that a swap by this code is made with, if there is one
-unfoldable pub partner_of : Shared → Rect → List ℕ → ℕ → ℕ → ℕ → ℕ → Adjacent
+unfoldable pub partner_of : Shared → Rect → List ℕ → ℕ → ℕ → ℕ → ℕ → Option (ℕ × ℕ)
 partner_of S W indices x y k code = eligible S W indices k (neighbour_of code x y S.tiling.width S.tiling.height)
 
 -- a swap with that neighbour: the pixel takes its ink, and it takes the pixel's
-abbrev pub swap_with : Shared → Rect → List Float → List ℕ → Site → ℕ → Best → Adjacent → Best
-swap_with S W cpe indices s code b (Pixel nx ny) =
+abbrev pub swap_with : Shared → Rect → List Float → List ℕ → Site → ℕ → Best → Option (ℕ × ℕ) → Best
+swap_with S W cpe indices s code b (Some (nx, ny)) =
     better_of b (swap_cost (gaps S.cpp S.tiling code) (less_of (ink_at S (index_at W indices nx ny)) (ink_at S s.k)) s.c (cpe_at W cpe nx ny)) (Swap code)
-swap_with S W cpe indices s code b Outside = b
+swap_with S W cpe indices s code b None = b
 
 unfoldable pub try_swap : Shared → Rect → List Float → List ℕ → ℕ → ℕ → Site → ℕ → Best → Best
 try_swap S W cpe indices x y s code b = swap_with S W cpe indices s code b (partner_of S W indices x y s.k code)
@@ -74,7 +72,7 @@ evaluate_of S W cpe indices x y b =
 
 -- what makes pixel (nx, ny) the partner of a swap by this code
 pub record Partner (S : Shared) (W : Rect) (indices : List ℕ) (x y k code nx ny : ℕ) : Type 0 where
-  pub beside : neighbour_of code x y S.tiling.width S.tiling.height ≡ Pixel nx ny
+  pub beside : neighbour_of code x y S.tiling.width S.tiling.height ≡ Some (nx, ny)
   pub other : eqb (index_at W indices nx ny) k ≡ false
   pub free : pinned_at S.pinned S.tiling.width nx ny ≡ false
 
@@ -88,7 +86,7 @@ pub record FairSwap (S : Shared) (W : Rect) (indices : List ℕ) (x y code : ℕ
   pub named : code < 8
   pub nx : ℕ
   pub ny : ℕ
-  pub partner : partner_of S W indices x y (index_at W indices x y) code ≡ Pixel nx ny
+  pub partner : partner_of S W indices x y (index_at W indices x y) code ≡ Some (nx, ny)
 
 -- a move that pixel (x, y) may make
 abbrev pub FairMove : Shared → Rect → List ℕ → ℕ → ℕ → Move → Type 0

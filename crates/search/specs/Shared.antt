@@ -22,8 +22,8 @@ abbrev pub shared : Tiling → ℕ → List ℕ → List Float → List Float �
 shared T count pinned inks cpp = record { tiling = T; count = count; pinned = pinned; inks = inks; cpp = cpp }
 
 -- the same of what the code has
-abbrev pub shared_of : Setup → List ℕ → List Float → List Float → Shared
-shared_of g pinned inks cpp = shared g.tiling g.inks pinned inks cpp
+abbrev pub shared_of : Setup → Shared
+shared_of s = shared s.tiling s.count s.pinned.now s.inks.now s.cpp.now
 
 -- ink j
 abbrev pub ink_at : Shared → ℕ → YyCxCz

@@ -17,7 +17,7 @@ use tables::Tables;
 use tiling::Tiling;
 
 // A move of a pixel. A swap names its neighbour by code.
-#[derive(Clone, Copy)]
+#[derive(Clone, Copy, PartialEq, Eq)]
 pub enum Move {
     Stay,
     Toggle(usize),
@@ -31,8 +31,9 @@ pub struct Best {
     pub mv: Move,
 }
 
-// The same while moves are weighed, the move as a number, which goes by registers: j for a toggle to
-// ink j, MAX_INKS + code for a swap by that code, MAX_INKS + 8 for none.
+// The same while moves are weighed, the move as a number: j for a toggle to ink j, MAX_INKS + code for a
+// swap by that code, MAX_INKS + 8 for none.
+// Kept: a number goes by registers, an enum by memory: with `Move` a pass takes 17 to 53 % more instructions (docs/DECISIONS.md).
 #[derive(Clone, Copy)]
 pub struct Choice {
     pub cost: f64,
@@ -46,14 +47,19 @@ pub struct Site {
     pub c: YyCxCz,
 }
 
-// What every tile has in common: the image with its kernels' radii, and the number of inks.
+// What every tile has in common and none changes: the image with its kernels' radii, the number of inks,
+// the pin mask, the ink values and the kernel store.
 #[derive(Clone, Copy)]
-pub struct Setup {
+pub struct Setup<'a> {
     pub tiling: Tiling,
-    pub inks: usize,
+    pub count: usize,
+    pub pinned: &'a [u8],
+    pub inks: &'a [f64],
+    pub cpp: &'a [f64],
 }
 
 // The index of a pixel of the window.
+#[tactic(auto, using(places::proofs::Window::place_index), unfolding(base::specs::Grid::cell))]
 pub fn index_at(indices: &[Index], w: Rect, x: usize, y: usize) -> usize
     requires inside { Inside w x y }
     requires x1_le_max_side { (w.x1 ≤ max_side) × (w.y1 ≤ max_side) }
@@ -65,6 +71,7 @@ pub fn index_at(indices: &[Index], w: Rect, x: usize, y: usize) -> usize
 }
 
 // `cpe` at a pixel of the window.
+#[tactic(auto, using(crate::proofs::Window::place_cpe, crate::proofs::Window::cpe_values))]
 pub fn cpe_at(cpe: &[f64], w: Rect, x: usize, y: usize) -> YyCxCz
     requires inside { Inside w x y }
     requires x1_le_max_side { (w.x1 ≤ max_side) × (w.y1 ≤ max_side) }
@@ -75,6 +82,7 @@ pub fn cpe_at(cpe: &[f64], w: Rect, x: usize, y: usize) -> YyCxCz
 }
 
 // The move that a number stands for.
+#[tactic(auto, unfolding(crate::specs::Fast::move_of))]
 fn move_of(pick: usize) -> Move
     ensures { result ≡ move_of pick }
 {
@@ -88,6 +96,7 @@ fn move_of(pick: usize) -> Move
 }
 
 // Only a smaller cost replaces the best.
+#[tactic(auto, unfolding(crate::specs::Fast::best_of))]
 fn better(b: Choice, cost: f64, pick: usize) -> Choice
     ensures { best_of result ≡ better_of (best_of b) cost (move_of pick) }
 {
@@ -98,6 +107,7 @@ fn better(b: Choice, cost: f64, pick: usize) -> Choice
 }
 
 // Ink j in the place of the pixel's, if it is another. p: the kernels at their centres; v: the pixel's ink.
+#[tactic(auto, using(crate::proofs::FastLaws::move_toggle), unfolding(crate::specs::Search::try_toggle))]
 fn try_toggle(inks: &[f64], p: YyCxCz, s: Site, v: YyCxCz, j: usize, b: Choice) -> Choice
     requires inked { Inked inks.now s v }
     requires j_in_bounds { (3 * j + 2 < length inks.now) × (j < max_inks) }
@@ -106,26 +116,26 @@ fn try_toggle(inks: &[f64], p: YyCxCz, s: Site, v: YyCxCz, j: usize, b: Choice) 
     if j == s.k {
         return b;
     }
-    let a = color::less(color::values_at(inks, 3 * j), v);
+    let a = color::values_at(inks, 3 * j) - v;
     better(b, cost::toggle_cost(p, a, s.c), j)
 }
 
 // The best toggle: inks in ascending order.
+#[tactic(auto, using(base::proofs::LoopLaws::up_to_none, base::proofs::LoopLaws::up_to_more))]
 fn best_toggle(inks: &[f64], p: YyCxCz, count: usize, s: Site, v: YyCxCz, b: Choice) -> Choice
     requires inked { Inked inks.now s v }
     requires inks_len { (length inks.now ≡ 3 * count) × (count ≤ max_inks) }
     ensures { best_of result ≡ up_to (try_toggle inks.now p s) count (best_of b) }
 {
     let mut best = b;
-    let mut j = 0usize;
-    while j < count {
+    for j in 0..count {
         best = try_toggle(inks, p, s, v, j, best);
-        j += 1;
     }
     best
 }
 
 // The swap with the pixel at place n of the window, if it has another ink. g: the kernels at their centres less beside them.
+#[tactic(auto, using(crate::proofs::FastLaws::move_swap), unfolding(crate::specs::Fast::swap_by))]
 fn swap_at(
     cpe: &[f64],
     indices: &[Index],
@@ -146,18 +156,19 @@ fn swap_at(
     if kn == s.k {
         return b;
     }
-    let a = color::less(color::values_at(inks, 3 * kn), v);
+    let a = color::values_at(inks, 3 * kn) - v;
     let cn = color::values_at(cpe, 3 * n);
     better(b, cost::swap_cost(g, a, s.c, cn), MAX_INKS + code)
 }
 
 // The best swap: neighbours by code, each at its place.
+#[tactic(auto, using(base::proofs::LoopLaws::up_to_none, base::proofs::LoopLaws::up_to_more), unfolding(crate::specs::Fast::swaps_by))]
 fn best_swap(
     cpe: &[f64],
     indices: &[Index],
     inks: &[f64],
     tab: Tables,
-    places: &[usize],
+    places: &[usize; 8],
     s: Site,
     v: YyCxCz,
     b: Choice,
@@ -167,53 +178,48 @@ fn best_swap(
     ensures { best_of result ≡ swaps_by inks.now cpe.now indices.now tab places.now s 8 (best_of b) }
 {
     let mut best = b;
-    let mut code = 0usize;
-    while code < 8 {
+    for code in 0..8 {
         let g = YyCxCz {
             yy: tab.lum[code],
             cx: tab.chroma[code],
             cz: tab.chroma[code],
         };
         best = swap_at(cpe, indices, inks, g, places[code], s, v, code, best);
-        code += 1;
     }
     best
 }
 
-// The best move of pixel (x, y): toggles, then swaps. `-EPS` of dbs.rs is what a move has to beat. Only the contract
-// speaks of `cpp`, which the tables are of.
+// The best move of pixel (x, y): toggles, then swaps. `-EPS` of dbs.rs is what a move has to beat. Of the kernel
+// store only the contract speaks, which the tables are of.
+#[tactic(auto, using(places::proofs::Window::held_inside))]
 pub fn evaluate(
     cpe: &[f64],
     indices: &[Index],
-    pinned: &[u8],
-    inks: &[f64],
-    cpp: &[f64],
-    g: Setup,
+    s: Setup<'_>,
     tab: Tables,
     x: usize,
     y: usize,
 ) -> Best
-    requires ready { Ready (shared_of g pinned.now inks.now cpp.now) tab.w (length cpe.now) indices.now }
-    requires held { Held g.tiling tab.w x y }
-    requires tab_value { tab ≡ tables_of cpp.now g.tiling tab.w }
-    ensures { result ≡ evaluate_of (shared_of g pinned.now inks.now cpp.now) tab.w cpe.now indices.now x y no_move }
+    requires ready { Ready (shared_of s) tab.w (length cpe.now) indices.now }
+    requires held { Held s.tiling tab.w x y }
+    requires tab_value { tab ≡ tables_of s.cpp.now s.tiling tab.w }
+    ensures { result ≡ evaluate_of (shared_of s.entry) tab.w cpe.now indices.now x y no_move }
 {
     let w = tab.w;
-    let t = g.tiling;
+    let t = s.tiling;
     let k = index_at(indices, w, x, y);
-    let s = Site {
+    let site = Site {
         k,
         c: cpe_at(cpe, w, x, y),
     };
-    let v = color::values_at(inks, 3 * k);
+    let v = color::values_at(s.inks, 3 * k);
     let start = Choice {
         cost: -1e-9,
         pick: MAX_INKS + 8,
     };
-    let toggled = best_toggle(inks, tab.centre, g.inks, s, v, start);
-    let mut places = [0usize; 8];
-    places::fill_places(&mut places, pinned, t, tab, places::spot_of(t, w, x, y));
-    let best = best_swap(cpe, indices, inks, tab, &places, s, v, toggled);
+    let toggled = best_toggle(s.inks, tab.centre, s.count, site, v, start);
+    let places = places::places_of(s.pinned, t, tab, places::spot_of(t, w, x, y));
+    let best = best_swap(cpe, indices, s.inks, tab, &places, site, v, toggled);
     Best {
         cost: best.cost,
         mv: move_of(best.pick),

@@ -1,132 +1,178 @@
-// The sizes of an accepted input, and refusals 10 and 11, of the passes allowed and the buffers lent, which are
-// held to them. They follow 1 to 9: where one of those applies it stays the answer.
+// All refusals of refine, find_move and open: 1 to 9, which give the sizes of an accepted input, and then 10 and 11, of the passes
+// allowed and the buffers lent, which are held to these sizes.
 #![tactic(auto)]
 
-ghost use Rattle.std.specs.Prelude.{◌≡◌};
-ghost use Rattle.base.specs.Refusal.{judge_from};
-ghost use Rattle.input.specs.Input.{input, run_tests, refine_run_tests, open_run_tests, find_run_tests};
-ghost use Rattle.sizes.specs.Sizes.{no_sizes, sizes_of};
+ghost use Rattle.std.specs.Prelude.{◌≡◌, [], ◌∷◌, length};
+ghost use Rattle.base.specs.Refusal.{judge};
+ghost use Rattle.base.specs.Limits.{cpp_length};
+ghost use Rattle.base.specs.Answer.{status_of, Tested};
+ghost use Rattle.input.specs.Input.{input_tests, run_tests, refine_run_tests, open_run_tests, find_run_tests, refine_tests, open_tests, find_tests, length_test};
+ghost use Rattle.input.specs.Inputs.{input_of};
+ghost use Rattle.tiling.specs.Tiling.{tiles};
+ghost use Rattle.sizes.specs.Sizes.{tiling_of, sizes_of};
 
-use base::{CPP_LEN, Index, MAX_PASSES, Status};
-use eye::DbsParams;
-use input::next_length;
+use base::{Buffer, CPP_LEN, MAX_PASSES, Refusal, refuse_if};
+use input::{Input, check_length};
 use tiling::Tiling;
 
-// The tiling of an input, its number of tiles, and the lengths of its field and of its ink values; zeros where it is refused.
+// The tiling of an input, its number of tiles, and the lengths of its field and of its ink values.
 #[derive(Clone, Copy)]
-pub struct Sizes {
-    pub status: Status,
+struct Sizes {
     pub tiling: Tiling,
     pub tiles: usize,
     pub field: usize,
     pub values: usize,
 }
 
-fn refused(status: Status) -> Sizes
-    ensures { result ≡ no_sizes status }
-{
-    let tiling = Tiling {
-        width: 0,
-        height: 0,
-        lum: 0,
-        chroma: 0,
-    };
-    Sizes {
-        status,
-        tiling,
-        tiles: 0,
-        field: 0,
-        values: 0,
-    }
-}
-
 // Refusals 1 to 9, and the sizes where none applies.
-pub fn check_sizes(
-    width: u64,
-    height: u64,
-    pixels: &[u8],
-    palette: &[u8],
-    indices: &[Index],
-    pinned: &[u8],
-    params: DbsParams,
-) -> Sizes
-    ensures { result ≡ sizes_of (input width height pixels.now palette.now indices.now pinned.now params) }
+fn check_sizes(given: Input<'_>) -> Result<Sizes, Refusal>
+    ensures { Tested result (input_tests (input_of given.entry)) (sizes_of (input_of given.entry)) }
 {
-    let eye = input::check_input(width, height, pixels, palette, indices, pinned, params);
-    let status = eye.status;
-    if status.number != 0 {
-        return refused(status);
-    }
+    let eye = given.check()?;
     let tiling = Tiling {
-        width: width as usize,
-        height: height as usize,
+        width: given.width as usize,
+        height: given.height as usize,
         lum: eye.lum_radius,
         chroma: eye.chroma_radius,
     };
-    Sizes {
-        status,
+    Ok(Sizes {
         tiling,
-        tiles: tiling::tile_count(tiling),
+        tiles: tiling.tile_count(),
         field: 3 * (tiling.height * tiling.width),
-        values: 3 * (palette.len() / 3),
-    }
+        values: 3 * (given.palette.len() / 3),
+    })
+}
+
+// Refusal 11 of buffers 1 and 2.
+#[tactic(auto, unfolding(base::specs::Refusal::judge))]
+fn check_field(s: Sizes, cpe: &[f64], cpp: &[f64]) -> Result<(), Refusal>
+    ensures { status_of result ≡ judge (length_test 1 (length cpe.now) s.field ∷ length_test 2 (length cpp.now) cpp_length ∷ []) }
+{
+    check_length(Buffer::Cpe, cpe.len(), s.field)?;
+    check_length(Buffer::Cpp, cpp.len(), CPP_LEN)
 }
 
 // Refusal 10, and 11 of buffers 1 to 3.
+#[tactic(auto, unfolding(input::specs::Input::run_tests, base::specs::Refusal::judge))]
 fn check_run(
     s: Sizes,
     max_passes: u64,
-    cpe_len: usize,
-    cpp_len: usize,
-    accepted_per_pass_len: usize,
-) -> Status
-    ensures { result ≡ judge_from s.status (run_tests max_passes s.field cpe_len cpp_len accepted_per_pass_len) }
+    cpe: &[f64],
+    cpp: &[f64],
+    accepted_per_pass: &[u32],
+) -> Result<(), Refusal>
+    ensures { status_of result ≡ judge (run_tests max_passes s.field (length cpe.now) (length cpp.now) (length accepted_per_pass.now)) }
 {
-    let s1 = base::next(s.status, max_passes > MAX_PASSES as u64, 10, 0);
-    let s2 = next_length(s1, 1, cpe_len, s.field);
-    let s3 = next_length(s2, 2, cpp_len, CPP_LEN);
-    next_length(s3, 3, accepted_per_pass_len, max_passes as usize)
+    refuse_if(max_passes > MAX_PASSES as u64, Refusal::Passes)?;
+    check_field(s, cpe, cpp)?;
+    check_length(
+        Buffer::AcceptedPerPass,
+        accepted_per_pass.len(),
+        max_passes as usize,
+    )
 }
 
-// Refusals 10 and 11 of refine.
+// Refusals 10 and 11 of refine, of an input of these sizes.
+#[tactic(auto, unfolding(input::specs::Input::refine_run_tests, input::specs::Input::run_tests, base::specs::Refusal::judge))]
+fn check_refine_run(
+    s: Sizes,
+    max_passes: u64,
+    cpe: &[f64],
+    cpp: &[f64],
+    accepted_per_pass: &[u32],
+    inks: &[f64],
+) -> Result<(), Refusal>
+    ensures { status_of result ≡ judge (refine_run_tests max_passes s.field s.values (length cpe.now) (length cpp.now) (length accepted_per_pass.now) (length inks.now)) }
+{
+    check_run(s, max_passes, cpe, cpp, accepted_per_pass)?;
+    check_length(Buffer::Inks, inks.len(), s.values)
+}
+
+// Refusal 11 of find_move, of an input of these sizes; it is given no passes and no counts.
+#[tactic(auto, unfolding(input::specs::Input::find_run_tests, base::specs::Refusal::judge))]
+fn check_find_run(s: Sizes, cpe: &[f64], cpp: &[f64], inks: &[f64]) -> Result<(), Refusal>
+    ensures { status_of result ≡ judge (find_run_tests s.field s.values (length cpe.now) (length cpp.now) (length inks.now)) }
+{
+    check_field(s, cpe, cpp)?;
+    check_length(Buffer::Inks, inks.len(), s.values)
+}
+
+// Refusals 10 and 11 of open, of an input of these sizes.
+#[tactic(auto, unfolding(input::specs::Input::open_run_tests, input::specs::Input::run_tests, base::specs::Refusal::judge))]
+fn check_open_run(
+    s: Sizes,
+    max_passes: u64,
+    cpe: &[f64],
+    cpp: &[f64],
+    accepted_per_pass: &[u32],
+    tile_states: &[u8],
+    deltas: &[f64],
+    inks: &[f64],
+) -> Result<(), Refusal>
+    ensures { status_of result ≡ judge (open_run_tests max_passes s.field s.values s.tiles (length cpe.now) (length cpp.now) (length accepted_per_pass.now) (length tile_states.now) (length deltas.now) (length inks.now)) }
+{
+    check_run(s, max_passes, cpe, cpp, accepted_per_pass)?;
+    check_length(Buffer::TileStates, tile_states.len(), s.tiles)?;
+    check_length(Buffer::Deltas, deltas.len(), s.tiles)?;
+    check_length(Buffer::Inks, inks.len(), s.values)
+}
+
+// All refusals of refine, and the tiling where none applies.
+#[tactic(auto, using(crate::proofs::Laws::refused_at, crate::proofs::Laws::told_by, crate::proofs::Laws::tiling_is), unfolding(input::specs::Input::refine_tests, crate::specs::Sizes::sizes_of))]
 pub fn check_refine(
-    s: Sizes,
+    given: Input<'_>,
     max_passes: u64,
-    cpe_len: usize,
-    cpp_len: usize,
-    accepted_per_pass_len: usize,
-    inks_len: usize,
-) -> Status
-    ensures { result ≡ judge_from s.status (refine_run_tests max_passes s.field s.values cpe_len cpp_len accepted_per_pass_len inks_len) }
+    cpe: &[f64],
+    cpp: &[f64],
+    accepted_per_pass: &[u32],
+    inks: &[f64],
+) -> Result<Tiling, Refusal>
+    ensures { Tested result (refine_tests (input_of given.entry) max_passes (length cpe.now) (length cpp.now) (length accepted_per_pass.now) (length inks.now)) (tiling_of (input_of given.entry)) }
 {
-    let run = check_run(s, max_passes, cpe_len, cpp_len, accepted_per_pass_len);
-    next_length(run, 8, inks_len, s.values)
+    let s = check_sizes(given)?;
+    check_refine_run(s, max_passes, cpe, cpp, accepted_per_pass, inks)?;
+    Ok(s.tiling)
 }
 
-// Refusal 11 of find_move, which is given no passes and no counts.
-pub fn check_find(s: Sizes, cpe_len: usize, cpp_len: usize, inks_len: usize) -> Status
-    ensures { result ≡ judge_from s.status (find_run_tests s.field s.values cpe_len cpp_len inks_len) }
+// All refusals of find_move, and the tiling where none applies.
+#[tactic(auto, using(crate::proofs::Laws::refused_at, crate::proofs::Laws::told_by, crate::proofs::Laws::tiling_is), unfolding(input::specs::Input::find_tests, crate::specs::Sizes::sizes_of))]
+pub fn check_find(
+    given: Input<'_>,
+    cpe: &[f64],
+    cpp: &[f64],
+    inks: &[f64],
+) -> Result<Tiling, Refusal>
+    ensures { Tested result (find_tests (input_of given.entry) (length cpe.now) (length cpp.now) (length inks.now)) (tiling_of (input_of given.entry)) }
 {
-    let s1 = next_length(s.status, 1, cpe_len, s.field);
-    let s2 = next_length(s1, 2, cpp_len, CPP_LEN);
-    next_length(s2, 8, inks_len, s.values)
+    let found = check_sizes(given)?;
+    check_find_run(found, cpe, cpp, inks)?;
+    Ok(found.tiling)
 }
 
-// Refusals 10 and 11 of open.
+// All refusals of open, and the tiling where none applies.
+#[tactic(auto, using(crate::proofs::Laws::refused_at, crate::proofs::Laws::told_by, crate::proofs::Laws::tiling_is), unfolding(input::specs::Input::open_tests, crate::specs::Sizes::sizes_of))]
 pub fn check_open(
-    s: Sizes,
+    given: Input<'_>,
     max_passes: u64,
-    cpe_len: usize,
-    cpp_len: usize,
-    accepted_per_pass_len: usize,
-    tile_states_len: usize,
-    deltas_len: usize,
-    inks_len: usize,
-) -> Status
-    ensures { result ≡ judge_from s.status (open_run_tests max_passes s.field s.values s.tiles cpe_len cpp_len accepted_per_pass_len tile_states_len deltas_len inks_len) }
+    cpe: &[f64],
+    cpp: &[f64],
+    accepted_per_pass: &[u32],
+    tile_states: &[u8],
+    deltas: &[f64],
+    inks: &[f64],
+) -> Result<Tiling, Refusal>
+    ensures { Tested result (open_tests (input_of given.entry) max_passes (tiles (tiling_of (input_of given.entry))) (length cpe.now) (length cpp.now) (length accepted_per_pass.now) (length tile_states.now) (length deltas.now) (length inks.now)) (tiling_of (input_of given.entry)) }
 {
-    let run = check_run(s, max_passes, cpe_len, cpp_len, accepted_per_pass_len);
-    let s1 = next_length(run, 4, tile_states_len, s.tiles);
-    let s2 = next_length(s1, 5, deltas_len, s.tiles);
-    next_length(s2, 8, inks_len, s.values)
+    let s = check_sizes(given)?;
+    check_open_run(
+        s,
+        max_passes,
+        cpe,
+        cpp,
+        accepted_per_pass,
+        tile_states,
+        deltas,
+        inks,
+    )?;
+    Ok(s.tiling)
 }

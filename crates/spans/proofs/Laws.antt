@@ -1,7 +1,7 @@
 -- No value of `cpe` is added or lost, and what is done to the lent part of a row, pixel by pixel, is done to `cpe`. Assumes nothing.
 use Prim.Native.Nat.{ℕ, ◌+◌, ◌-◌, ◌*◌, ◌<◌, ◌≤◌}
 use native.Mathlib.Omega.{arith}
-use mathlib.Core.Path.{◌≡◌, refl, sym, ap, ◌∙◌}
+use mathlib.Core.Path.{◌≡◌, sym, ap, ◌∙◌}
 use mathlib.Core.List.{List}
 use lib.ListN.{length, get_or, drop, set, length-set, length-drop}
 use lib.Seq.{get_or-take, get_or-drop, get_or-set_same, length-take-le}
@@ -9,7 +9,6 @@ use lib.Ieee.{Float, nan}
 use borrow.Rule.Slice.PartMut.{mid_of, put_mid, put_same}
 use Rattle.base.specs.Loop.{up_to}
 use Rattle.base.specs.F64.{◌+f◌, ◌*f◌}
-use Rattle.base.proofs.LoopLaws.{up_to_same}
 use Rattle.base.proofs.PartLaws.{get_part, set_part, fold_part}
 use Rattle.color.specs.declared.YyCxCz.{YyCxCz}
 use Rattle.spans.specs.declared.Channels.{Channels}
@@ -60,6 +59,13 @@ record Local (act : ℕ → ℕ → List Float → List Float) : Type 0 where
   pub keeps : (i j : ℕ) (t : List Float) → length (act i j t) ≡ length t
   pub in_part : (b n : ℕ) (xs : List Float) → b ≤ length xs → (i j : ℕ) (t : List Float) → j + 2 < length t → act i (b + j) (put_mid b n xs t) ≡ put_mid b n xs (act i j t)
 
+-- one after the other
+then : (f g : ℕ → ℕ → List Float → List Float) → Local f → Local g → Local (λ i j t. g i j (f i j t))
+then f g F G = record {
+  keeps = λ i j t. G.keeps i j _ ∙ F.keeps i j t;
+  in_part = λ b n xs l i j t e. ap (g i (b + j)) (F.in_part b n xs l i j t e) ∙ G.in_part b n xs l i j _ (omega (arith, e, F.keeps i j t));
+}
+
 adds : (h : Channels) (a : YyCxCz) (kernel : List Float) → Local (λ i j t. add_at h a (get_or kernel i nan) j t)
 adds h a kernel = record {
   keeps = λ i j t. length-add_at h a (get_or kernel i nan) j t;
@@ -67,32 +73,18 @@ adds h a kernel = record {
 }
 
 -- n pixels from value `at` of `cpe` on, lent by their ends
-row_is : (act : ℕ → ℕ → List Float → List Float) (d : Local act) (pixel : ℕ → List Float → List Float) (x at n : ℕ) (f : List Float) →
-    ((i : ℕ) → i < n → (t : List Float) → pixel (x + i) t ≡ act i (at + 3 * i) t) → at + 3 * n ≤ length f →
-    put_mid at (at + 3 * n - at) f (up_to (λ i. act i (3 * i)) n (mid_of at (at + 3 * n - at) f)) ≡ up_to (λ i. pixel (x + i)) n f
-row_is act d pixel x at n f turn fits =
+row_is : (act : ℕ → ℕ → List Float → List Float) (d : Local act) (pixel : ℕ → List Float → List Float) (at n : ℕ) (f : List Float) →
+    ((i : ℕ) → i < n → (t : List Float) → pixel i t ≡ act i (at + 3 * i) t) → at + 3 * n ≤ length f →
+    put_mid at (at + 3 * n - at) f (up_to (λ i. act i (3 * i)) n (mid_of at (at + 3 * n - at) f)) ≡ up_to pixel n f
+row_is act d pixel at n f turn fits =
     let many : at + 3 * n - at ≡ 3 * n = omega arith in
     let inside : at ≤ length f = omega arith in
-    rw many (sym (fold_part at (3 * n) f inside n (λ i. act i (3 * i)) (λ i. pixel (x + i))
+    rw many (sym (fold_part at (3 * n) f inside n (λ i. act i (3 * i)) pixel
     (λ i l t e. (d.keeps i (3 * i) t ∙ e, turn i l _ ∙ d.in_part at (3 * n) f inside i (3 * i) t (omega (arith, l, e))))
     (mid_of at (3 * n) f) (length-take-le (3 * n) (drop at f) (omega (arith, length-drop at f))))
-    ∙ ap (up_to (λ i. pixel (x + i)) n) (put_same at (3 * n) f))
-
-pairs : (h : Channels) (a b : YyCxCz) (kernel other : List Float) → Local (λ i j t. add_at h b (get_or other i nan) j (add_at h a (get_or kernel i nan) j t))
-pairs h a b kernel other = record {
-  keeps = λ i j t. length-add_at h b (get_or other i nan) j _ ∙ length-add_at h a (get_or kernel i nan) j t;
-  in_part = λ d n xs l i j t e.
-      ap (λ (g : List Float). add_at h b (get_or other i nan) (d + j) g) (add_at_part d n xs l h a (get_or kernel i nan) j t e)
-      ∙ add_at_part d n xs l h b (get_or other i nan) j _ (omega (arith, e, length-add_at h a (get_or kernel i nan) j t));
-}
+    ∙ ap (up_to pixel n) (put_same at (3 * n) f))
 
 -- ---- a span
-
--- a part lent by its ends
-lent : (b n : ℕ) (l : List Float) → b + n ≤ length l → length (mid_of b (b + n - b) l) ≡ n
-lent b n l h =
-    let e : b + n - b ≡ n = omega arith in
-    rw e (length-take-le n (drop b l) (omega (arith, length-drop b l)))
 
 -- value i of a part lent by its ends
 lent_at : (b n i : ℕ) (l : List Float) → i < n → get_or (mid_of b (b + n - b) l) i nan ≡ get_or l (b + i) nan
@@ -100,52 +92,22 @@ lent_at b n i l h =
     let e : b + n - b ≡ n = omega arith in
     rw e (get_or-take n (drop b l) i nan h ∙ get_or-drop b l i nan)
 
-module _ (h : Channels) (a : YyCxCz) (cpp : List Float) (s : Span) where
-  abbrev kernel : List Float
-  kernel = mid_of s.from (s.from + s.pixels - s.from) cpp
+module _ (h : Channels) (a : YyCxCz) (cpp : List Float) (s : Span) (f : List Float) (z : Fits (length f) (length cpp) s) where
+  abbrev kernel : ℕ → List Float
+  kernel from = mid_of from (from + s.pixels - from) cpp
 
-  -- what is done to pixel i of the span
-  abbrev alone : ℕ → List Float → List Float
-  alone i t = add_at h a (get_or cpp (s.from + i) nan) (s.at + 3 * i) t
-
-  alone_first : (i : ℕ) (t : List Float) → alone (0 + i) t ≡ alone i t
-  alone_first i t = let e : 0 + i ≡ i = omega arith in rw e
-
-  alone_turn : (i : ℕ) → i < s.pixels → (t : List Float) → alone (0 + i) t ≡ add_at h a (get_or kernel i nan) (s.at + 3 * i) t
-  alone_turn i l t = alone_first i t ∙ rw (lent_at s.from s.pixels i cpp l)
-
-  pub span_row_is : (f : List Float) → Fits (length f) (length cpp) s → (last : List Float) →
-      last ≡ add_pixels h a kernel (length kernel) (mid_of s.at (s.at + 3 * s.pixels - s.at) f) → put_mid s.at (s.at + 3 * s.pixels - s.at) f last ≡ span_of h a cpp s f
+  pub span_row_is : put_mid s.at (s.at + 3 * s.pixels - s.at) f (add_pixels h a (kernel s.from) s.pixels (mid_of s.at (s.at + 3 * s.pixels - s.at) f)) ≡ span_of h a cpp s f
   unfolding add_pixels span_of
-  span_row_is f z last e =
-      rw (e, lent s.from s.pixels cpp z.in_cpp)
-      (row_is (λ i j t. add_at h a (get_or kernel i nan) j t) (adds h a kernel) alone 0 s.at s.pixels f alone_turn z.in_cpe
-      ∙ up_to_same s.pixels (λ i. alone (0 + i)) alone f (λ i _ t. alone_first i t))
+  span_row_is =
+      row_is _ (adds h a (kernel s.from)) (λ i. add_at h a (get_or cpp (s.from + i) nan) (s.at + 3 * i)) s.at s.pixels f
+      (λ i l t. rw (lent_at s.from s.pixels i cpp l)) z.in_cpe
 
-module _ (h : Channels) (a b : YyCxCz) (cpp : List Float) (s o : Span) where
-  abbrev one : List Float
-  one = mid_of s.from (s.from + s.pixels - s.from) cpp
-
-  abbrev two : List Float
-  two = mid_of o.from (o.from + s.pixels - o.from) cpp
-
-  -- what is done to pixel i of the span
-  abbrev pixel : ℕ → List Float → List Float
-  pixel i t = add_at h b (get_or cpp (o.from + i) nan) (s.at + 3 * i) (add_at h a (get_or cpp (s.from + i) nan) (s.at + 3 * i) t)
-
-  from_first : (i : ℕ) (t : List Float) → pixel (0 + i) t ≡ pixel i t
-  from_first i t = let e : 0 + i ≡ i = omega arith in rw e
-
-  turn : (i : ℕ) → i < s.pixels → (t : List Float) → pixel (0 + i) t ≡ add_at h b (get_or two i nan) (s.at + 3 * i) (add_at h a (get_or one i nan) (s.at + 3 * i) t)
-  turn i l t = from_first i t ∙ rw (lent_at s.from s.pixels i cpp l, lent_at o.from s.pixels i cpp l)
-
-  pub pair_span_is : (f : List Float) → Fits (length f) (length cpp) s → (last : List Float) →
-      last ≡ add_pairs h a b one two (length one) (mid_of s.at (s.at + 3 * s.pixels - s.at) f) → put_mid s.at (s.at + 3 * s.pixels - s.at) f last ≡ pair_span h a b cpp s o f
+  pub pair_span_is : (b : YyCxCz) (o : Span) → put_mid s.at (s.at + 3 * s.pixels - s.at) f (add_pairs h a b (kernel s.from) (kernel o.from) s.pixels (mid_of s.at (s.at + 3 * s.pixels - s.at) f)) ≡ pair_span h a b cpp s o f
   unfolding add_pairs pair_span
-  pair_span_is f z last e =
-      rw (e, lent s.from s.pixels cpp z.in_cpp)
-      (row_is (λ i j t. add_at h b (get_or two i nan) j (add_at h a (get_or one i nan) j t)) (pairs h a b one two) pixel 0 s.at s.pixels f turn z.in_cpe
-      ∙ up_to_same s.pixels (λ i. pixel (0 + i)) pixel f (λ i _ t. from_first i t))
+  pair_span_is b o =
+      row_is _ (then _ _ (adds h a (kernel s.from)) (adds h b (kernel o.from)))
+      (λ i t. add_at h b (get_or cpp (o.from + i) nan) (s.at + 3 * i) (add_at h a (get_or cpp (s.from + i) nan) (s.at + 3 * i) t)) s.at s.pixels f
+      (λ i l t. rw (lent_at s.from s.pixels i cpp l, lent_at o.from s.pixels i cpp l)) z.in_cpe
 
 -- a span of one pixel
 pub span_one : (h : Channels) (a : YyCxCz) (cpp : List Float) (s : Span) (f : List Float) → s.pixels ≡ 1 → add_at h a (get_or cpp s.from nan) s.at f ≡ span_of h a cpp s f

@@ -20,16 +20,15 @@ square_of row i s = s +f at row i *f at row i
 unfoldable pub line_squares : List Float → ℕ → List Float → ℕ → Float
 line_squares out n sums i = up_to (λ j s. s +f cell_at n out i j *f cell_at n out i j) n (at sums i)
 
--- the squares of row i of a block, whose sums start at 0, added to value i of sums
-unfoldable pub block_squares : Block → Scene → List Float → List Float → ℕ → Float
-block_squares B G taps sums i = up_to (λ j s. let v = sum_rows B G taps B.height i j f0 in s +f v *f v) B.lines.width (at sums i)
+-- the squares of row i of a block, whose sums start at 0, added to value i of sums, of an image of w columns and h rows
+unfoldable pub block_squares : ℕ → ℕ → Block → Scene → List Float → List Float → ℕ → Float
+block_squares w h B G taps sums i = up_to (λ j s. let v = sum_rows w B G taps h i j f0 in s +f v *f v) B.lines.width (at sums i)
 
 -- a block whose rows are the lines of a list, one after another, with room for it and for a row of errors
-pub record SquareFits (B : Block) (G : Scene) (taps line out sums : ℕ) : Type 0 where
-  pub block : BlockFits B G taps (column_count B) out
+pub record SquareFits (w h : ℕ) (B : Block) (taps line out sums : ℕ) : Type 0 where
+  pub block : BlockFits w h B taps (column_count w B) out
   pub first : B.lines.first ≡ 0
   pub step : B.lines.step ≡ 1
   pub whole : B.rows * B.lines.width ≤ out
-  pub most : out ≤ 8192
-  pub errors : column_count B ≤ line
+  pub errors : column_count w B ≤ line
   pub each : sums ≡ B.rows

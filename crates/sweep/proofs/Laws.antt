@@ -23,7 +23,7 @@ use Rattle.spans.specs.Spans.{span_of, Fits}
 use Rattle.spans.proofs.Laws.{length-add_at}
 use Rattle.sweep.specs.declared.Source.{Source}
 use Rattle.sweep.specs.Sweep.{Centred, first, past, footprint_of, sweep_pixel, sweep_row, sweep_of, add_kernels}
-use Rattle.sweep.specs.Part.{Part, RowSpan, pixel_of, row_of, part_of, below_of}
+use Rattle.sweep.specs.Part.{Part, RowSpan, pixel_of, row_of, part_of}
 
 -- ---- along one axis: the centre m lies in the window from a up to b
 pub record Axis (m r a b f p : ℕ) : Type 0 where
@@ -101,21 +101,6 @@ module _ (k : Kernel2D) (W : Rect) (m : Source) (C : Rect) (y : ℕ) (p : Part k
     cpp_end = rw (f, n) cpp_end_le;
     cpp_limit = rw (f, n) (omega (arith, cpp_end_le, store));
   }
-
--- the row below
-module _ (k : Kernel2D) (W : Rect) (m : Source) (C : Rect) (y : ℕ) (p : Part k W m C) (few : k.radius ≤ max_radius) (low : C.y0 ≤ y) (s : Span) (r : RowSpan k W m C y s) where
-  row_below : (a b q w : ℕ) → a ≡ b + 1 → 3 * (b * w + q) + 0 + 3 * w ≡ 3 * (a * w + q) + 0
-  row_below a b q w e = rw e (omega arith)
-
-  kernel_below : (f a b q w : ℕ) → a ≡ b + 1 → f + (b * w + q) + w ≡ f + (a * w + q)
-  kernel_below f a b q w e = rw e (omega arith)
-
-  pub below_is : k.from ≤ cpp_chroma → y + 1 < C.y1 → RowSpan k W m C (y + 1) (below_of k W s)
-  unfolding place width
-  below_is store more = row_span k W m C (y + 1) p few (omega (arith, low)) more store (below_of k W s)
-      (rw r.at_is (row_below (y + 1 - W.y0) (y - W.y0) (C.x0 - W.x0) (W.x1 - W.x0) (omega (arith, p.top, low))))
-      r.pixels_are
-      (rw r.from_is (kernel_below k.from (y + 1 + k.radius - m.y) (y + k.radius - m.y) (C.x0 + k.radius - m.x) (2 * k.radius + 1) (omega (arith, p.from_top, low))))
 
 -- ---- no value is added or lost
 

@@ -48,15 +48,3 @@ pub record RowSpan (k : Kernel2D) (W : Rect) (m : Source) (C : Rect) (y : ℕ) (
   pub cpe_limit : s.at + 3 * s.pixels ≤ 3 * max_pixels
   pub cpp_end : s.from + s.pixels ≤ k.from + cpp_chroma
   pub cpp_limit : s.from + s.pixels ≤ cpp_length
-
--- ---- a row by where it stands
-
--- the span a row further down, in `cpe` and in the kernel
-abbrev pub below_of : Kernel2D → Rect → Span → Span
-below_of k W s = record { at = s.at + 3 * (W.x1 - W.x0); pixels = s.pixels; from = s.from + (2 * k.radius + 1) }
-
--- rows of a window and of a kernel within the limits
-pub record Steps (k : Kernel2D) (W : Rect) : Type 0 where
-  pub radius_limit : k.radius ≤ max_radius
-  pub columns : W.x0 ≤ W.x1
-  pub right_limit : W.x1 ≤ max_side

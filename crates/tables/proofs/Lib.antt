@@ -1,2 +1,2 @@
-pub mod Kernels
 pub mod AllEight
+pub mod Made

@@ -1,11 +1,9 @@
 -- A SHAPE FOR SPEED: what is worked out once for a tile. Nothing that a reader has to believe: no contract of another crate's answer cites it.
-use Rattle.std.specs.Prelude.{◌≡◌, List, ℕ, ◌+◌, ◌-◌, ◌*◌, ◌≤◌, length, Float}
+use Rattle.std.specs.Prelude.{◌≡◌, List, ℕ, ◌+◌, ◌-◌, ◌*◌, ◌≤◌, length, Float, Option, Some, None}
 use Rattle.base.specs.declared.Rect.{Rect}
 use Rattle.base.specs.Limits.{max_side, cpp_length}
 use Rattle.base.specs.Loop.{table}
 use Rattle.base.specs.F64.{◌-f◌}
-use Rattle.neighbour.specs.declared.Adjacent.{Adjacent}
-use Rattle.neighbour.specs.declared.Adjacent.TheVariants.{Pixel, Outside}
 use Rattle.neighbour.specs.Neighbour.{neighbour_of}
 use Rattle.tiling.specs.declared.Tiling.{Tiling}
 use Rattle.tiling.specs.Tiling.{Limits, image}
@@ -19,9 +17,9 @@ abbrev pub gap_of : List Float → Kernel2D → ℕ → Float
 gap_of cpp k code = centre_of cpp k -f beside_of cpp k code
 
 -- the pixels of the window W from the one above and left of a pixel to its neighbour: those of the middle of 3 × 3 pixels
-abbrev pub step_to : Rect → Adjacent → ℕ
-step_to W (Pixel i j) = j * (W.x1 - W.x0) + i
-step_to W Outside = 0
+abbrev pub step_to : Rect → Option (ℕ × ℕ) → ℕ
+step_to W (Some (i, j)) = j * (W.x1 - W.x0) + i
+step_to W None = 0
 
 unfoldable pub step_of : Rect → ℕ → ℕ
 step_of W code = step_to W (neighbour_of code 1 1 3 3)

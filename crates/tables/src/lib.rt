@@ -13,7 +13,7 @@ ghost use Rattle.tables.specs.Tables.{gap_of, step_of, tables_of, TablesFit};
 use base::Rect;
 use color::YyCxCz;
 use cpp::Kernel2D;
-use neighbour::Adjacent;
+use std::array;
 use tiling::Tiling;
 
 // What is worked out once for a tile: its window, the kernels at their centres, both kernels at
@@ -29,6 +29,7 @@ pub struct Tables {
 }
 
 // The kernel's value at its centre.
+#[tactic(auto, unfolding(cost::specs::Cost::centre_of))]
 fn kernel_centre(cpp: &[f64], k: Kernel2D) -> f64
     requires { KernelFits k cpp.now }
     ensures { result ≡ centre_of cpp.now k }
@@ -36,8 +37,8 @@ fn kernel_centre(cpp: &[f64], k: Kernel2D) -> f64
     cpp::kernel_at(cpp, k, k.radius, k.radius)
 }
 
-// The kernel's value next to its centre. A kernel of radius 1 or more has all eight, so that
-// `Outside` does not happen.
+// The kernel's value next to its centre. A kernel of radius 1 or more has all eight.
+#[tactic(auto, using(crate::proofs::AllEight::centre_found), unfolding(cost::specs::Cost::beside_of))]
 fn kernel_beside(cpp: &[f64], k: Kernel2D, code: u8) -> f64
     requires kernel_fits { KernelFits k cpp.now }
     requires le_radius { (1 ≤ k.radius) × (code < 8) }
@@ -45,13 +46,14 @@ fn kernel_beside(cpp: &[f64], k: Kernel2D, code: u8) -> f64
 {
     let r = k.radius;
     let size = 2 * r + 1;
-    match neighbour::neighbour(code, r, r, size, size) {
-        Adjacent::Pixel { x, y } => cpp::kernel_at(cpp, k, x, y),
-        Adjacent::Outside => 0.0,
-    }
+    let Some((x, y)) = neighbour::neighbour(code, r, r, size, size) else {
+        unreachable!();
+    };
+    cpp::kernel_at(cpp, k, x, y)
 }
 
 // `cpp0`: each channel's kernel at its centre.
+#[tactic(auto, unfolding(cost::specs::Cost::centres))]
 fn centres_of(cpp: &[f64], t: Tiling) -> YyCxCz
     requires limits { Limits t }
     requires cpp_len { length cpp.now ≡ cpp_length }
@@ -66,64 +68,47 @@ fn centres_of(cpp: &[f64], t: Tiling) -> YyCxCz
 }
 
 // A kernel at its centre less next to it, by code.
-fn fill_gaps(gaps: &mut [f64], cpp: &[f64], k: Kernel2D)
-    requires gaps_len { length gaps.old ≡ 8 }
+fn gaps_of(cpp: &[f64], k: Kernel2D) -> [f64; 8]
     requires kernel_fits { KernelFits k cpp.now }
     requires le_radius { 1 ≤ k.radius }
-    ensures { gaps.new ≡ table 8 (gap_of cpp.now k) }
+    ensures { result ≡ table 8 (gap_of cpp.now k) }
 {
     let centre = kernel_centre(cpp, k);
-    let mut code = 0usize;
-    while code < 8 {
-        gaps[code] = centre - kernel_beside(cpp, k, code as u8);
-        code += 1;
-    }
+    array::from_fn(|code| centre - kernel_beside(cpp, k, code as u8))
 }
 
 // How many pixels of the window lie from the one above and left of a pixel to its neighbour by this code.
+#[tactic(auto, unfolding(crate::specs::Tables::step_of))]
 fn step_of(w: Rect, code: u8) -> usize
     requires { (w.x1 ≤ max_side) × (w.x0 ≤ w.x1) }
     ensures { result ≡ step_of w code }
 {
     match neighbour::neighbour(code, 1, 1, 3, 3) {
-        Adjacent::Pixel { x, y } => y * (w.x1 - w.x0) + x,
-        Adjacent::Outside => 0,
+        Some((x, y)) => y * (w.x1 - w.x0) + x,
+        None => 0,
     }
 }
 
 // The same by code.
-fn fill_steps(steps: &mut [usize], w: Rect)
-    requires steps_len { length steps.old ≡ 8 }
-    requires x1_le_max_side { (w.x1 ≤ max_side) × (w.x0 ≤ w.x1) }
-    ensures { steps.new ≡ table 8 (step_of w) }
+fn steps_of(w: Rect) -> [usize; 8]
+    requires { (w.x1 ≤ max_side) × (w.x0 ≤ w.x1) }
+    ensures { result ≡ table 8 (step_of w) }
 {
-    let mut code = 0usize;
-    while code < 8 {
-        steps[code] = step_of(w, code as u8);
-        code += 1;
-    }
+    array::from_fn(|code| step_of(w, code as u8))
 }
 
 // The tables of a tile on the window w.
+#[tactic(auto, unfolding(crate::specs::Tables::tables_of, tiling::specs::Tiling::image))]
 pub fn tables_of(cpp: &[f64], t: Tiling, w: Rect) -> Tables
     requires { TablesFit cpp.now t w }
     ensures { result ≡ tables_of cpp.now t w }
 {
-    let mut lum = [0.0f64; 8];
-    fill_gaps(&mut lum, cpp, cpp::lum_kernel(t));
-    let mut chroma = [0.0f64; 8];
-    fill_gaps(&mut chroma, cpp, cpp::chroma_kernel(t));
-    let mut steps = [0usize; 8];
-    fill_steps(&mut steps, w);
-    let mut marks = [0usize; 8];
-    fill_steps(&mut marks, tiling::image_rect(t));
-    let centre = centres_of(cpp, t);
     Tables {
         w,
-        centre,
-        lum,
-        chroma,
-        steps,
-        marks,
+        centre: centres_of(cpp, t),
+        lum: gaps_of(cpp, cpp::lum_kernel(t)),
+        chroma: gaps_of(cpp, cpp::chroma_kernel(t)),
+        steps: steps_of(w),
+        marks: steps_of(t.image_rect()),
     }
 }

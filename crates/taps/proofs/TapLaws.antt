@@ -5,6 +5,7 @@ use mathlib.Core.Path.{◌≡◌, sym, ap, ◌∙◌}
 use mathlib.Core.Logic.{⊎_elim}
 use lib.Ieee.{Float}
 use Rattle.base.specs.F64.{◌+f◌, ◌*f◌}
+use Rattle.base.specs.Loop.{up_to}
 use Rattle.base.proofs.Bounds.{lt_or_ge}
 use Rattle.base.proofs.LoopLaws.{from_to_none, from_to_more, from_to_same}
 use Rattle.taps.specs.Taps.{tap_term, tap_sum}
@@ -55,19 +56,15 @@ module _ (value tap : ℕ → Float) (m lead p : ℕ) where
       let e : d + suc k ≡ suc (d + k) = omega arith in
       rw e (sym (tap_turn d (d + k) (sum a d s) (omega arith)) ∙ ap (sum (d + k) (suc (d + k))) (tap_join a d k s h) ∙ tap_turn a (d + k) s (omega (arith, h)))
 
-  -- four taps that fall on values
-  pub tap_four : (a d : ℕ) (s : Float) → a ≤ d → lead ≤ p + d → p + d + 4 ≤ lead + m →
-      sum a (d + 4) s ≡ sum a d s +f tap d *f value (p + d - lead) +f tap (d + 1) *f value (p + d - lead + 1) +f tap (d + 2) *f value (p + d - lead + 2) +f tap (d + 3) *f value (p + d - lead + 3)
-  tap_four a d s h left right =
-      let term : ℕ → Float → Float = λ q u. u +f tap (d + q) *f value (p + d - lead + q) in
-      let turn : (q : ℕ) → q < 4 → sum a (d + suc q) s ≡ term q (sum a (d + q) s) = λ q l.
-      let e : p + (d + q) - lead ≡ p + d - lead + q = omega (arith, left) in
-      let next : d + suc q ≡ suc (d + q) = omega arith in
-      rw (next, ← e) (tap_more a (d + q) s (omega (arith, h)) (omega (arith, left)) (omega (arith, right, l)))
-      in
-      let none : d + 0 ≡ d = omega arith in
-      let same : p + d - lead + 0 ≡ p + d - lead = omega arith in
-      turn 3 (omega arith) ∙ ap (term 3) (turn 2 (omega arith) ∙ ap (term 2) (turn 1 (omega arith) ∙ ap (term 1) (rw (none, same) at (turn 0 (omega arith)))))
+  -- n taps that fall on values
+  pub tap_many : (a d n : ℕ) (s : Float) → a ≤ d → lead ≤ p + d → p + d + n ≤ lead + m →
+      sum a (d + n) s ≡ up_to (λ q u. u +f tap (d + q) *f value (p + d - lead + q)) n (sum a d s)
+  unfolding up_to
+  tap_many a d zero s h left right = let none : d + 0 ≡ d = omega arith in rw none
+  tap_many a d (suc n) s h left right =
+      let next : d + suc n ≡ suc (d + n) = omega arith in
+      let place : p + (d + n) - lead ≡ p + d - lead + n = omega (arith, left) in
+      rw (next, tap_more a (d + n) s (omega (arith, h)) (omega (arith, left)) (omega (arith, right)), place, tap_many a d n s h left (omega (arith, right)))
 
 -- values and taps that are the same where they are read
 pub tap_same : (value value' tap tap' : ℕ → Float) (m lead p b : ℕ) (s : Float) → ((j : ℕ) → j < m → value j ≡ value' j) → ((d : ℕ) → d < b → tap d ≡ tap' d) →

@@ -1,1 +1,2 @@
 pub mod Taps
+pub mod Rows

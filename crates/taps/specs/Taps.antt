@@ -3,7 +3,7 @@
 -- these definitions say of each sum which terms it takes and in which order, which is that of dbs.rs.
 use Rattle.std.specs.Prelude.{◌≡◌, List, ℕ, ◌+◌, ◌-◌, ◌≤◌, ◌<◌, min, length, get_or, Float}
 use Rattle.std.specs.Float.{nan}
-use Rattle.base.specs.Loop.{from_to}
+use Rattle.base.specs.Loop.{up_to, from_to}
 use Rattle.base.specs.F64.{◌+f◌, ◌*f◌}
 
 -- value i of a list; nothing reads past a list's end
@@ -24,12 +24,9 @@ module _ (value tap : ℕ → Float) (m lead p : ℕ) where
 
 -- ---- the sums of a row
 
--- tap k times each value, and four taps times each value and the three after it
-unfoldable pub one_tap : List Float → List Float → Float → ℕ → Float
-one_tap sums values k i = at sums i +f k *f at values i
-
-unfoldable pub four_taps : List Float → List Float → Float → Float → Float → Float → ℕ → Float
-four_taps sums values k0 k1 k2 k3 i = at sums i +f k0 *f at values i +f k1 *f at values (i + 1) +f k2 *f at values (i + 2) +f k3 *f at values (i + 3)
+-- a few taps, the first times value i, the others times the values after it: added to sum i from left to right
+unfoldable pub few_taps : List Float → List Float → List Float → ℕ → Float
+few_taps sums values taps i = up_to (λ d s. s +f at taps d *f at values (i + d)) (length taps) (at sums i)
 
 -- places a to b - 1 of a list changed by f, and no other
 pub record Changed (a b : ℕ) (f : ℕ → Float → Float) (old new : List Float) : Type 0 where
@@ -37,11 +34,3 @@ pub record Changed (a b : ℕ) (f : ℕ → Float → Float) (old new : List Flo
   pub here : (i : ℕ) → a ≤ i → i < b → at new i ≡ f i (at old i)
   pub before : (i : ℕ) → i < a → at new i ≡ at old i
   pub after : (i : ℕ) → b ≤ i → at new i ≡ at old i
-
--- ---- what the functions require: numbers that add up without a wrap
-
-pub record RowFits (n m lead taps : ℕ) : Type 0 where
-  pub sums : n ≤ 65536
-  pub values : m ≤ 65536
-  pub shift : lead ≤ 65536
-  pub size : taps ≤ 65536

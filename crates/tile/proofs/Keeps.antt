@@ -15,8 +15,7 @@ use Rattle.base.specs.Grid.{area, width, height, Inside, place, put}
 use Rattle.base.proofs.LoopLaws.{from_to_keeps, from_to_rel, from_to_grows}
 use Rattle.base.proofs.GridLaws.{place_inj, cell-put_other, length-put}
 use Rattle.tiling.specs.declared.Tiling.{Tiling}
-use Rattle.neighbour.specs.declared.Adjacent.{Adjacent}
-use Rattle.neighbour.specs.declared.Adjacent.TheVariants.{Pixel, Outside}
+use Rattle.std.specs.Prelude.{Option, Some, None}
 use Rattle.neighbour.specs.Neighbour.{neighbour_of}
 use Rattle.pins.specs.Pins.{pinned_at}
 use Rattle.sweep.proofs.Laws.{length-add_kernels}
@@ -85,10 +84,10 @@ module _ (S : Shared) (W : Rect) where
   -- ---- a fair move
 
   module _ (i₀ : List ℕ) (x y : ℕ) (h : Held S.tiling W x y) (free : pinned x y ≡ false) where
-    abbrev next : ℕ → Adjacent
+    abbrev next : ℕ → Option (ℕ × ℕ)
     next code = neighbour_of code x y S.tiling.width S.tiling.height
 
-    exchanged_kept : (l : List ℕ) (nx ny : ℕ) → Inside W nx ny → pinned nx ny ≡ false → Kept i₀ l → Kept i₀ (exchanged W x y (Pixel nx ny) l)
+    exchanged_kept : (l : List ℕ) (nx ny : ℕ) → Inside W nx ny → pinned nx ny ≡ false → Kept i₀ l → Kept i₀ (exchanged W x y (Some (nx, ny)) l)
     exchanged_kept l nx ny i f r =
         let m = held_inside S.tiling W x y h in
         put_kept i₀ _ nx ny _ i f (index_lt i₀ l x y m r) (put_kept i₀ l x y _ m free (index_lt i₀ l nx ny i r) r)
@@ -108,9 +107,9 @@ module _ (S : Shared) (W : Rect) where
   cpe_length x y (Toggle j) l f = length-add_kernels S.cpp S.tiling W x y _ f
   cpe_length x y (Swap code) l f = go (neighbour_of code x y S.tiling.width S.tiling.height)
     where
-      go : (n : Adjacent) → length (swap_kernels S W x y n l f) ≡ length f
-      go (Pixel nx ny) = length-add_kernels S.cpp S.tiling W nx ny _ _ ∙ length-add_kernels S.cpp S.tiling W x y _ f
-      go Outside = refl
+      go : (n : Option (ℕ × ℕ)) → length (swap_kernels S W x y n l f) ≡ length f
+      go (Some (nx, ny)) = length-add_kernels S.cpp S.tiling W nx ny _ _ ∙ length-add_kernels S.cpp S.tiling W x y _ f
+      go None = refl
 
   -- ---- a visit, and the tile
 

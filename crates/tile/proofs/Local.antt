@@ -14,8 +14,7 @@ use Rattle.base.proofs.MirrorLaws.{Mirror, mirror_put}
 use Rattle.color.specs.declared.YyCxCz.{YyCxCz}
 use Rattle.tiling.specs.declared.Tiling.{Tiling}
 use Rattle.tiling.specs.Tiling.{image}
-use Rattle.neighbour.specs.declared.Adjacent.{Adjacent}
-use Rattle.neighbour.specs.declared.Adjacent.TheVariants.{Pixel, Outside}
+use Rattle.std.specs.Prelude.{Option, Some, None}
 use Rattle.neighbour.specs.Neighbour.{neighbour_of}
 use Rattle.neighbour.proofs.Laws.{Beyond, near_by}
 use Rattle.pins.specs.Pins.{pinned_at}
@@ -106,7 +105,7 @@ module _ (S : Shared) (W : Rect) (cpe cpe' : List Float) (indices indices' : Lis
   cpe_same x y h = rw (g.values x y 0 h (omega arith), g.values x y 1 h (omega arith), g.values x y 2 h (omega arith))
 
   module _ (x y : ℕ) (room : Around S.tiling W 1 x y) where
-    next_inside : (nx ny : ℕ) → Beyond x y S.tiling.width S.tiling.height (Pixel nx ny) → Inside W nx ny
+    next_inside : (nx ny : ℕ) → Beyond x y S.tiling.width S.tiling.height (Some (nx, ny)) → Inside W nx ny
     next_inside nx ny p = around_inside (around_next nx ny room p.0 p.1)
 
     pub evaluate_local : (b : Best) → evaluate_of S W cpe indices x y b ≡ evaluate_of S (image S.tiling) cpe' indices' x y b
@@ -143,20 +142,20 @@ module _ (S : Shared) (W : Rect) (s₀ : State) (x y : ℕ) (room : Around S.til
     index_same : (u v : ℕ) → Inside W u v → index_at W t.indices u v ≡ index_at I s.indices u v
     index_same u v h = r.indices.same u v 0 h (omega arith)
 
-    exchanged_rel : (n : Adjacent) → Beyond x y S.tiling.width S.tiling.height n → Mirror 0 1 I W s₀.indices (exchanged W x y n t.indices) (exchanged I x y n s.indices)
-    exchanged_rel (Pixel nx ny) p =
+    exchanged_rel : (n : Option (ℕ × ℕ)) → Beyond x y S.tiling.width S.tiling.height n → Mirror 0 1 I W s₀.indices (exchanged W x y n t.indices) (exchanged I x y n s.indices)
+    exchanged_rel (Some (nx, ny)) p =
         let i = around_inside (around_next nx ny room p.0 p.1) in
         let h = around_inside here in
         put_rel nx ny _ _ _ _ i (index_same x y h) (put_rel x y _ _ _ _ h (index_same nx ny i) r.indices)
-    exchanged_rel Outside p = r.indices
+    exchanged_rel None p = r.indices
 
-    kernels_both : (n : Adjacent) → Beyond x y S.tiling.width S.tiling.height n →
+    kernels_both : (n : Option (ℕ × ℕ)) → Beyond x y S.tiling.width S.tiling.height n →
         Mirror nan 3 I W s₀.cpe (swap_kernels S W x y n t.indices t.cpe) (swap_kernels S I x y n s.indices s.cpe)
-    kernels_both (Pixel nx ny) p =
+    kernels_both (Some (nx, ny)) p =
         let next = around_next nx ny room p.0 p.1 in
         rw (index_same x y (around_inside here), index_same nx ny (around_inside next))
         (kernels_rel S.tiling W s₀.cpe S.cpp _ nx ny _ _ next (kernels_rel S.tiling W s₀.cpe S.cpp _ x y _ _ here r.cpe))
-    kernels_both Outside p = r.cpe
+    kernels_both None p = r.cpe
 
     near_code : (code : ℕ) → Beyond x y S.tiling.width S.tiling.height (neighbour_of code x y S.tiling.width S.tiling.height)
     near_code code = near_by code x y S.tiling.width S.tiling.height room.in_x room.in_y

@@ -10,8 +10,7 @@ use Rattle.base.specs.declared.Rect.{Rect}
 use Rattle.base.specs.Grid.{Inside, put}
 use Rattle.base.proofs.LoopLaws.{from_to_keeps}
 use Rattle.base.proofs.GridLaws.{place_inj, cell-put_other}
-use Rattle.neighbour.specs.declared.Adjacent.{Adjacent}
-use Rattle.neighbour.specs.declared.Adjacent.TheVariants.{Pixel, Outside}
+use Rattle.std.specs.Prelude.{Option, Some, None}
 use Rattle.neighbour.specs.Neighbour.{neighbour_of}
 use Rattle.pins.specs.Pins.{pinned_at}
 use Rattle.search.specs.declared.Move.{Move}
@@ -38,9 +37,9 @@ module _ (S : Shared) (W Q : Rect) (k : Covers S.tiling W Q) where
       here : Inside (grown Q) x y
       here = record { left = omega (arith, q.left); right = omega (arith, q.right); top = omega (arith, q.top); bottom = omega (arith, q.bottom) }
 
-      far_exchanged : (l : List ℕ) (n : Adjacent) (code : ℕ) → neighbour_of code x y S.tiling.width S.tiling.height ≡ n → index_at W (exchanged W x y n l) u v ≡ index_at W l u v
-      far_exchanged l Outside code e = refl
-      far_exchanged l (Pixel nx ny) code e =
+      far_exchanged : (l : List ℕ) (n : Option (ℕ × ℕ)) (code : ℕ) → neighbour_of code x y S.tiling.width S.tiling.height ≡ n → index_at W (exchanged W x y n l) u v ≡ index_at W l u v
+      far_exchanged l None code e = refl
+      far_exchanged l (Some (nx, ny)) code e =
           let b = neighbour_inside S.tiling W code x y nx ny held e in
           let near : Inside (grown Q) nx ny = record {
             left = omega (arith, q.left, b.1.low);

@@ -11,20 +11,16 @@ use Rattle.base.specs.declared.Rect.{Rect}
 use Rattle.base.proofs.Bounds.{index_lt}
 use Rattle.base.specs.Loop.{from_to}
 use Rattle.base.proofs.LoopLaws.{from_to_none, from_to_more, from_to_grows}
-use Rattle.tiling.specs.declared.Tiling.{Tiling}
-use Rattle.neighbour.specs.declared.Adjacent.{Adjacent}
-use Rattle.neighbour.specs.declared.Adjacent.TheVariants.{Pixel, Outside}
-use Rattle.neighbour.specs.Neighbour.{neighbour_of}
 use Rattle.pins.specs.Pins.{MaskFits, pinned_at}
 use Rattle.search.specs.declared.Best.{Best}
 use Rattle.search.specs.declared.Move.{Move}
 use Rattle.search.specs.declared.Move.TheVariants.{Stay, Toggle, Swap}
-use Rattle.search.specs.Shared.{Shared, shared, Ready, Held}
+use Rattle.search.specs.Shared.{Shared, Ready, Held}
 use Rattle.search.specs.Search.{FairMove, no_move, evaluate_of}
 use Rattle.search.proofs.Laws.{evaluate_fair}
 use Rattle.progress.specs.declared.Progress.{Progress}
 use Rattle.progress.specs.Progress.{counted}
-use Rattle.moves.specs.Moves.{Writable, NamesInk, swap_kernels, moved_indices, moved_cpe}
+use Rattle.moves.specs.Moves.{Writable, NamesInk, moved_indices, moved_cpe}
 use Rattle.tile.specs.Tile.{State, state, applied, visit_of, refine_row}
 use Rattle.tile.proofs.Keeps.{Sound, visit_count}
 
@@ -56,18 +52,6 @@ fair_names S W l x y (Swap code) e f = tt
 
 pub best_names : (S : Shared) (W : Rect) (cpe : List Float) (l : List ℕ) (x y : ℕ) → length S.inks ≡ 3 * S.count → NamesInk S.inks (evaluate_of S W cpe l x y no_move).mv
 best_names S W cpe l x y e = fair_names S W l x y (evaluate_of S W cpe l x y no_move).mv e (evaluate_fair S W cpe l x y)
-
--- a move reads of what tiles share only the tiling, the inks and the kernels
-pub moved_shared : (T : Tiling) (n m : ℕ) (p q : List ℕ) (inks cpp : List Float) (W : Rect) (x y : ℕ) (mv : Move) (l : List ℕ) (f : List Float) →
-    moved_cpe (shared T n p inks cpp) W x y mv l f ≡ moved_cpe (shared T m q inks cpp) W x y mv l f
-unfolding moved_cpe
-moved_shared T n m p q inks cpp W x y Stay l f = refl
-moved_shared T n m p q inks cpp W x y (Toggle j) l f = refl
-moved_shared T n m p q inks cpp W x y (Swap code) l f = go (neighbour_of code x y T.width T.height)
-  where
-    go : (a : Adjacent) → swap_kernels (shared T n p inks cpp) W x y a l f ≡ swap_kernels (shared T m q inks cpp) W x y a l f
-    go (Pixel nx ny) = refl
-    go Outside = refl
 
 -- ---- what a visit does
 

@@ -1,6 +1,6 @@
 -- The walk over one tile: `refine_tile` of dbs.rs, on the window W of the image (document 01, 'One phase: .. dots by rows').
 -- The window is the whole image in the plain walk, and the tile's region where a worker refines a copy.
-use Rattle.std.specs.Prelude.{cond, List, ℕ, ◌+◌, ◌-◌, ◌<◌, ◌≤◌, min, Float}
+use Rattle.std.specs.Prelude.{cond, List, ℕ, ◌+◌, ◌-◌, ◌≤◌, min, Float}
 use Rattle.base.specs.declared.Rect.{Rect}
 use Rattle.base.specs.Loop.{from_to}
 use Rattle.base.specs.F64.{f0}

@@ -4,123 +4,106 @@
 #![tactic(auto)]
 
 ghost use Rattle.std.specs.Prelude.{◌≡◌, ◌<◌, ◌≤◌, ◌^◌, length};
-ghost use Rattle.search.specs.Shared.{shared, shared_of, Ready, Held};
+ghost use Rattle.search.specs.Shared.{shared_of, Ready, Held};
 ghost use Rattle.tables.specs.Tables.{tables_of};
 ghost use Rattle.tile.specs.Tile.{state, visit_of, refine_row, refine_tile, no_progress, Covers};
 
 use base::{Index, Rect};
+use pins::Pins;
 use progress::Progress;
 use search::Setup;
 use tables::Tables;
-use tiling::Tiling;
 
 // One pixel: its best move, unless it is pinned.
+#[tactic(auto, using(crate::proofs::Walked::best_names), unfolding(crate::specs::Tile::visit_of, crate::specs::Tile::applied))]
 fn visit(
     cpe: &mut [f64],
     indices: &mut [Index],
-    pinned: &[u8],
-    inks: &[f64],
-    cpp: &[f64],
-    g: Setup,
+    s: Setup<'_>,
     tab: Tables,
     x: usize,
     y: usize,
     p: Progress,
 ) -> Progress
-    requires ready { Ready (shared_of g pinned.now inks.now cpp.now) tab.w (length cpe.old) indices.old }
-    requires held { Held g.tiling tab.w x y }
-    requires tab_value { tab ≡ tables_of cpp.now g.tiling tab.w }
+    requires ready { Ready (shared_of s) tab.w (length cpe.old) indices.old }
+    requires held { Held s.tiling tab.w x y }
+    requires tab_value { tab ≡ tables_of s.cpp.now s.tiling tab.w }
     requires accepted_bound { p.accepted < 2 ^ 62 }
-    ensures { state cpe.new indices.new result ≡ visit_of (shared_of g pinned.now inks.now cpp.now) tab.w x y (state cpe.old indices.old p) }
+    ensures { state cpe.new indices.new result ≡ visit_of (shared_of s.entry) tab.w x y (state cpe.old indices.old p) }
 {
-    let t = g.tiling;
-    if pins::is_pinned(pinned, t.width, x, y) {
+    let mask = Pins {
+        pinned: s.pinned,
+        width: s.tiling.width,
+    };
+    if mask.is_pinned(x, y) {
         return p;
     }
-    let best = search::evaluate(cpe, indices, pinned, inks, cpp, g, tab, x, y);
-    let mv = best.mv;
-    moves::apply_move(cpe, indices, inks, cpp, t, tab.w, x, y, mv);
-    progress::count_move(p, best.cost, mv)
+    let best = search::evaluate(cpe, indices, s, tab, x, y);
+    moves::apply_move(cpe, indices, s, tab.w, x, y, best.mv);
+    progress::count_move(p, best.cost, best.mv)
 }
 
 // Row y of the tile q.
+#[tactic(auto, unfolding(crate::specs::Tile::refine_row))]
 fn refine_row(
     cpe: &mut [f64],
     indices: &mut [Index],
-    pinned: &[u8],
-    inks: &[f64],
-    cpp: &[f64],
-    g: Setup,
+    s: Setup<'_>,
     tab: Tables,
     q: Rect,
     y: usize,
     p: Progress,
 ) -> Progress
-    requires ready { Ready (shared_of g pinned.now inks.now cpp.now) tab.w (length cpe.old) indices.old }
-    requires covers { Covers g.tiling tab.w q }
-    requires tab_value { tab ≡ tables_of cpp.now g.tiling tab.w }
+    requires ready { Ready (shared_of s) tab.w (length cpe.old) indices.old }
+    requires covers { Covers s.tiling tab.w q }
+    requires tab_value { tab ≡ tables_of s.cpp.now s.tiling tab.w }
     requires y0_le_y { (q.y0 ≤ y) × (y < q.y1) × (p.accepted < 2 ^ 61) }
-    ensures { state cpe.new indices.new result ≡ refine_row (shared_of g pinned.now inks.now cpp.now) tab.w q y (state cpe.old indices.old p) }
+    ensures { state cpe.new indices.new result ≡ refine_row (shared_of s.entry) tab.w q y (state cpe.old indices.old p) }
 {
-    let end = q.x1;
-    let mut x = q.x0;
     let mut n = p;
-    while x < end {
-        n = visit(cpe, indices, pinned, inks, cpp, g, tab, x, y, n);
-        x += 1;
+    for x in q.x0..q.x1 {
+        n = visit(cpe, indices, s, tab, x, y, n);
     }
     n
 }
 
 // The pixels of the tile q, row by row.
+#[tactic(auto, unfolding(crate::specs::Tile::refine_tile))]
 fn refine_rows(
     cpe: &mut [f64],
     indices: &mut [Index],
-    pinned: &[u8],
-    inks: &[f64],
-    cpp: &[f64],
-    g: Setup,
+    s: Setup<'_>,
     tab: Tables,
     q: Rect,
 ) -> Progress
-    requires ready { Ready (shared_of g pinned.now inks.now cpp.now) tab.w (length cpe.old) indices.old }
-    requires covers { Covers g.tiling tab.w q }
-    requires tab_value { tab ≡ tables_of cpp.now g.tiling tab.w }
-    ensures { state cpe.new indices.new result ≡ refine_tile (shared_of g pinned.now inks.now cpp.now) tab.w q (state cpe.old indices.old no_progress) }
+    requires ready { Ready (shared_of s) tab.w (length cpe.old) indices.old }
+    requires covers { Covers s.tiling tab.w q }
+    requires tab_value { tab ≡ tables_of s.cpp.now s.tiling tab.w }
+    ensures { state cpe.new indices.new result ≡ refine_tile (shared_of s.entry) tab.w q (state cpe.old indices.old no_progress) }
 {
-    let end = q.y1;
-    let mut y = q.y0;
     let mut n = Progress {
         accepted: 0,
         delta: 0.0,
     };
-    while y < end {
-        n = refine_row(cpe, indices, pinned, inks, cpp, g, tab, q, y, n);
-        y += 1;
+    for y in q.y0..q.y1 {
+        n = refine_row(cpe, indices, s, tab, q, y, n);
     }
     n
 }
 
 // The tile q. What depends only on the kernels and the window is worked out once.
+#[tactic(auto, unfolding(tables::specs::Tables::tables_of, tiling::specs::Tiling::image))]
 pub fn refine_tile(
     cpe: &mut [f64],
     indices: &mut [Index],
-    pinned: &[u8],
-    inks: &[f64],
-    cpp: &[f64],
-    count: usize,
-    t: Tiling,
+    s: Setup<'_>,
     w: Rect,
     q: Rect,
 ) -> Progress
-    requires ready { Ready (shared t count pinned.now inks.now cpp.now) w (length cpe.old) indices.old }
-    requires covers { Covers t w q }
-    ensures { state cpe.new indices.new result ≡ refine_tile (shared t count pinned.now inks.now cpp.now) w q (state cpe.old indices.old no_progress) }
+    requires ready { Ready (shared_of s) w (length cpe.old) indices.old }
+    requires covers { Covers s.tiling w q }
+    ensures { state cpe.new indices.new result ≡ refine_tile (shared_of s.entry) w q (state cpe.old indices.old no_progress) }
 {
-    let g = Setup {
-        tiling: t,
-        inks: count,
-    };
-    let tab = tables::tables_of(cpp, t, w);
-    refine_rows(cpe, indices, pinned, inks, cpp, g, tab, q)
+    let tab = tables::tables_of(s.cpp, s.tiling, w);
+    refine_rows(cpe, indices, s, tab, q)
 }

@@ -7,7 +7,7 @@ ghost use Rattle.std.specs.Prelude.{◌≡◌, ◌+◌, ◌-◌, ◌/◌, ◌^�
 ghost use Rattle.tiling.specs.Tiling as spec;
 ghost use Rattle.tiling.specs.Tiling.{Limits};
 
-use base::{Rect, larger, saturating_sub, smaller};
+use base::Rect;
 
 // All that tiles are made of: the size of the image and the radii of both autocorrelation kernels.
 #[derive(Clone, Copy)]
@@ -22,115 +22,104 @@ pub struct Tiling {
 // parallelism. The correctness bound (2 margin + 1) is enforced separately.
 const MIN_TILE: usize = 64;
 
-// Rust's `div_ceil`.
-fn div_ceil(a: usize, b: usize) -> usize
-    requires { (0 < b) × (a + b < 2 ^ 64) }
-    ensures { result ≡ (a + (b - 1)) / b }
-{
-    (a + (b - 1)) / b
-}
-
-// How far beyond its tile a move writes: the larger radius, and one pixel more for a swap's neighbour.
-pub fn margin(t: Tiling) -> usize
-    requires { Limits t }
-    ensures { result ≡ spec.margin t }
-{
-    larger(t.lum, t.chroma) + 1
-}
-
-pub fn side(t: Tiling) -> usize
-    requires { Limits t }
-    ensures { result ≡ spec.side t }
-{
-    larger(MIN_TILE, 2 * margin(t) + 1)
-}
-
-pub fn columns(t: Tiling) -> usize
-    requires { Limits t }
-    ensures { result ≡ spec.columns t }
-{
-    div_ceil(t.width, side(t))
-}
-
-pub fn rows(t: Tiling) -> usize
-    requires { Limits t }
-    ensures { result ≡ spec.rows t }
-{
-    div_ceil(t.height, side(t))
-}
-
-pub fn tile_count(t: Tiling) -> usize
-    requires { Limits t }
-    ensures { result ≡ spec.tiles t }
-{
-    rows(t) * columns(t)
-}
-
-// The column and the row of a tile, whose number is ty * columns + tx.
-fn tile_x(t: Tiling, tile: usize) -> usize
-    requires { Limits t }
-    ensures { result ≡ spec.tile_x t tile }
-{
-    tile % columns(t)
-}
-
-fn tile_y(t: Tiling, tile: usize) -> usize
-    requires { Limits t }
-    ensures { result ≡ spec.tile_y t tile }
-{
-    tile / columns(t)
-}
-
-// Phases 0 to 3 take (tx mod 2, ty mod 2) = (0, 0), (1, 0), (0, 1), (1, 1). Any phase and any tile
-// number may be asked for.
-pub fn is_in_phase(t: Tiling, phase: usize, tile: usize) -> bool
-    requires { Limits t }
-    ensures { result ≡ spec.in_phase t phase tile }
-{
-    tile_x(t, tile) % 2 == phase % 2 && tile_y(t, tile) % 2 == phase / 2
-}
-
-// The whole image.
-pub fn image_rect(t: Tiling) -> Rect
-    ensures { result ≡ spec.image t }
-{
-    Rect {
-        x0: 0,
-        y0: 0,
-        x1: t.width,
-        y1: t.height,
+impl Tiling {
+    // How far beyond its tile a move writes: the larger radius, and one pixel more for a swap's neighbour.
+    pub fn margin(self) -> usize
+        requires { Limits self }
+        ensures { result ≡ spec.margin self }
+    {
+        self.lum.max(self.chroma) + 1
     }
-}
 
-// The pixels of a tile.
-pub fn tile_rect(t: Tiling, tile: usize) -> Rect
-    requires limits { Limits t }
-    requires tile_bound { tile < spec.tiles t }
-    ensures { result ≡ spec.tile t tile }
-{
-    let side = side(t);
-    let x0 = tile_x(t, tile) * side;
-    let y0 = tile_y(t, tile) * side;
-    Rect {
-        x0: x0,
-        y0: y0,
-        x1: smaller(t.width, x0 + side),
-        y1: smaller(t.height, y0 + side),
+    pub fn side(self) -> usize
+        requires { Limits self }
+        ensures { result ≡ spec.side self }
+    {
+        MIN_TILE.max(2 * self.margin() + 1)
     }
-}
 
-// `with_margin` of dbs.rs: the part of the image that the tile's moves read and write.
-pub fn region_rect(t: Tiling, tile: usize) -> Rect
-    requires limits { Limits t }
-    requires tile_bound { tile < spec.tiles t }
-    ensures { result ≡ spec.region t tile }
-{
-    let margin = margin(t);
-    let rect = tile_rect(t, tile);
-    Rect {
-        x0: saturating_sub(rect.x0, margin),
-        y0: saturating_sub(rect.y0, margin),
-        x1: smaller(t.width, rect.x1 + margin),
-        y1: smaller(t.height, rect.y1 + margin),
+    // Kept: a line each, and what they share is `div_ceil`.
+    pub fn columns(self) -> usize
+        requires { Limits self }
+        ensures { result ≡ spec.columns self }
+    {
+        self.width.div_ceil(self.side())
+    }
+
+    pub fn rows(self) -> usize
+        requires { Limits self }
+        ensures { result ≡ spec.rows self }
+    {
+        self.height.div_ceil(self.side())
+    }
+
+    pub fn tile_count(self) -> usize
+        requires { Limits self }
+        ensures { result ≡ spec.tiles self }
+    {
+        self.rows() * self.columns()
+    }
+
+    // The column and the row of a tile, whose number is ty * columns + tx.
+    fn tile_x(self, tile: usize) -> usize
+        requires { Limits self }
+        ensures { result ≡ spec.tile_x self tile }
+    {
+        tile % self.columns()
+    }
+
+    fn tile_y(self, tile: usize) -> usize
+        requires { Limits self }
+        ensures { result ≡ spec.tile_y self tile }
+    {
+        tile / self.columns()
+    }
+
+    // Phases 0 to 3 take (tx mod 2, ty mod 2) = (0, 0), (1, 0), (0, 1), (1, 1). Any phase and any tile
+    // number may be asked for.
+    pub fn is_in_phase(self, phase: usize, tile: usize) -> bool
+        requires { Limits self }
+        ensures { result ≡ spec.in_phase self phase tile }
+    {
+        self.tile_x(tile) % 2 == phase % 2 && self.tile_y(tile) % 2 == phase / 2
+    }
+
+    // The whole image.
+    pub fn image_rect(self) -> Rect
+        ensures { result ≡ spec.image self }
+    {
+        Rect {
+            x0: 0,
+            y0: 0,
+            x1: self.width,
+            y1: self.height,
+        }
+    }
+
+    // The pixels of a tile.
+    pub fn tile_rect(self, tile: usize) -> Rect
+        requires limits { Limits self }
+        requires tile_bound { tile < spec.tiles self }
+        ensures { result ≡ spec.tile self tile }
+    {
+        let side = self.side();
+        let x0 = self.tile_x(tile) * side;
+        let y0 = self.tile_y(tile) * side;
+        Rect {
+            x0,
+            y0,
+            x1: self.width.min(x0 + side),
+            y1: self.height.min(y0 + side),
+        }
+    }
+
+    // `with_margin` of dbs.rs: the part of the image that the tile's moves read and write.
+    pub fn region_rect(self, tile: usize) -> Rect
+        requires limits { Limits self }
+        requires tile_bound { tile < spec.tiles self }
+        ensures { result ≡ spec.region self tile }
+    {
+        self.tile_rect(tile)
+            .with_margin(self.margin(), self.width, self.height)
     }
 }

@@ -1,5 +1,5 @@
 -- The plain walk: sequential refinement of the whole image, phase by phase (document 01, 'Tiles and the plain walk').
-use Rattle.std.specs.Prelude.{◌≡◌, Bool, true, false, cond, ◌||◌, List, [], ◌∷◌, ◌++◌, ℕ, ◌+◌, ◌*◌, length, eqb, leb, Float}
+use Rattle.std.specs.Prelude.{◌≡◌, Bool, false, cond, ◌||◌, List, [], ◌∷◌, ◌++◌, ℕ, ◌+◌, ◌*◌, length, eqb, leb, Float}
 use Rattle.base.specs.Loop.{up_to, overwrite}
 use Rattle.search.specs.Shared.{Shared}
 use Rattle.walk.specs.declared.Outcome.{Outcome}

@@ -15,8 +15,7 @@ use Rattle.base.proofs.LoopLaws.{up_to_ind}
 use Rattle.color.specs.declared.YyCxCz.{YyCxCz}
 use Rattle.color.specs.Values.{less_of}
 use Rattle.neighbour.specs.Neighbour.{neighbour_of}
-use Rattle.neighbour.specs.declared.Adjacent.{Adjacent}
-use Rattle.neighbour.specs.declared.Adjacent.TheVariants.{Pixel, Outside}
+use Rattle.std.specs.Prelude.{Option, Some, None}
 use Rattle.neighbour.proofs.Laws.{Beyond, near_by}
 use Rattle.cpp.specs.declared.Kernel2D.{Kernel2D}
 use Rattle.cpp.specs.Kernel.{size, lum_kernel, chroma_kernel}
@@ -45,12 +44,12 @@ module _ (S : Shared) (W : Rect) (cpe : List Float) (indices : List ℕ) (x y : 
   unfolding try_toggle cost_of
   toggle_weighs j = refl
 
-  pub swap_weighs : (code nx ny : ℕ) → partner_of S W indices x y (index_at W indices x y) code ≡ Pixel nx ny →
+  pub swap_weighs : (code nx ny : ℕ) → partner_of S W indices x y (index_at W indices x y) code ≡ Some (nx, ny) →
       try_swap S W cpe indices x y (site_at W cpe indices x y) code b ≡ better_of b (cost_of S W cpe indices x y (Swap code)) (Swap code)
   unfolding try_swap cost_of
   swap_weighs code nx ny e = rw e
 
-  pub none_weighed : (code : ℕ) → partner_of S W indices x y (index_at W indices x y) code ≡ Outside → try_swap S W cpe indices x y (site_at W cpe indices x y) code b ≡ b
+  pub none_weighed : (code : ℕ) → partner_of S W indices x y (index_at W indices x y) code ≡ None → try_swap S W cpe indices x y (site_at W cpe indices x y) code b ≡ b
   unfolding try_swap
   none_weighed code e = rw e
 
@@ -94,9 +93,9 @@ module _ (cpp : List Float) (k : Kernel2D) (w : KernelWithin cpp k) (some : 1 �
   unfolding centre_of
   centre_within = w k.radius k.radius (omega arith) (omega arith)
 
-  value_within : (a : Adjacent) → Found a → Beyond k.radius k.radius (size k) (size k) a → Bounded kernel_exponent 1 (value_of cpp k a)
-  value_within (Pixel i j) f b = w i j b.0.under b.1.under
-  value_within Outside f b = absurd f
+  value_within : (a : Option (ℕ × ℕ)) → Found a → Beyond k.radius k.radius (size k) (size k) a → Bounded kernel_exponent 1 (value_of cpp k a)
+  value_within (Some (i, j)) f b = w i j b.0.under b.1.under
+  value_within None f b = absurd f
 
   beside_within : (code : ℕ) → code < 8 → Bounded kernel_exponent 1 (beside_of cpp k code)
   unfolding beside_of
@@ -153,7 +152,7 @@ module _ (S : Shared) (f : Steady S) where
       toggle_within : (j : ℕ) → j < S.count → Bounded cost_exponent 1 (toggle_cost_to S W cpe indices x y j)
       toggle_within j l = toggle_cost_lem centres_within (change_within j _ l (index_lt x y here)) (cpe_at_within x y here)
 
-      swap_within : (code nx ny : ℕ) → code < 8 → partner_of S W indices x y (index_at W indices x y) code ≡ Pixel nx ny → Bounded cost_exponent 1 (swap_cost_with S W cpe indices x y code nx ny)
+      swap_within : (code nx ny : ℕ) → code < 8 → partner_of S W indices x y (index_at W indices x y) code ≡ Some (nx, ny) → Bounded cost_exponent 1 (swap_cost_with S W cpe indices x y code nx ny)
       swap_within code nx ny l e =
           let p = partner_is S W indices x y (index_at W indices x y) code nx ny e in
           let i = (neighbour_inside S.tiling W code x y nx ny h p.beside).0 in
@@ -189,9 +188,9 @@ module _ (S : Shared) (f : Steady S) where
           go j l b q true = q
           go j l b q false = better b _ (Toggle j) q (toggle_within j l)
 
-      swap_fine : (code : ℕ) → code < 8 → (a : Adjacent) → partner_of S W indices x y (index_at W indices x y) code ≡ a → (b : Best) → Fine b → Fine (swap_with S W cpe indices (site_at W cpe indices x y) code b a)
-      swap_fine code l Outside e b q = q
-      swap_fine code l (Pixel nx ny) e b q = better b _ (Swap code) q (swap_within code nx ny l e)
+      swap_fine : (code : ℕ) → code < 8 → (a : Option (ℕ × ℕ)) → partner_of S W indices x y (index_at W indices x y) code ≡ a → (b : Best) → Fine b → Fine (swap_with S W cpe indices (site_at W cpe indices x y) code b a)
+      swap_fine code l None e b q = q
+      swap_fine code l (Some (nx, ny)) e b q = better b _ (Swap code) q (swap_within code nx ny l e)
 
       swaps_fine : (b : Best) → Fine b → Fine (swaps S W cpe indices x y s b)
       unfolding swaps try_swap s

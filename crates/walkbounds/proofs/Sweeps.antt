@@ -11,7 +11,7 @@ use Rattle.base.specs.Grid.{area, place}
 use Rattle.base.specs.F64.{◌+f◌, ◌*f◌}
 use Rattle.color.specs.declared.YyCxCz.{YyCxCz}
 use Rattle.color.specs.Values.{less_of, neg_of}
-use Rattle.neighbour.specs.declared.Adjacent.TheVariants.{Pixel}
+use Rattle.std.specs.Prelude.{Some}
 use Rattle.cpp.specs.declared.Kernel2D.{Kernel2D}
 use Rattle.cpp.specs.Kernel.{lum_kernel, chroma_kernel}
 use Rattle.spans.specs.declared.Channels.{Channels}
@@ -112,7 +112,7 @@ module _ (S : Shared) (g : Steady S) (W : Rect) where
       let a = change_within S g _ _ (index_named W l S.count f.nx f.ny room named i) (index_named W l S.count x y room named (held_inside S.tiling W x y h)) in
       rw p.beside (swapped f.nx f.ny a)
     where
-      swapped : (nx ny : ℕ) → ColourWithin error_exponent 1 (less_of (ink_at S (index_at W l nx ny)) (ink_at S (index_at W l x y))) → Cells (m + visit_terms) (swap_kernels S W x y (Pixel nx ny) l c)
+      swapped : (nx ny : ℕ) → ColourWithin error_exponent 1 (less_of (ink_at S (index_at W l nx ny)) (ink_at S (index_at W l x y))) → Cells (m + visit_terms) (swap_kernels S W x y (Some (nx, ny)) l c)
       swapped nx ny a =
           let d = less_of (ink_at S (index_at W l nx ny)) (ink_at S (index_at W l x y)) in
           let once = add_kernels S.cpp S.tiling W x y d c in

@@ -1,6 +1,6 @@
 -- The plain walk: after any number of phases the values of `cpe` and the error are within their bounds, because it looks at no more than 4,096 tiles in
 -- each of at most 4,000 phases. Assumes nothing.
-use Prim.Native.Nat.{ℕ, zero, suc, ◌+◌, ◌-◌, ◌*◌, ◌≤◌, ◌<◌, min}
+use Prim.Native.Nat.{ℕ, zero, suc, ◌+◌, ◌*◌, ◌≤◌, ◌<◌, min}
 use native.Mathlib.Omega.{arith}
 use mathlib.Core.Path.{◌≡◌, refl, subst}
 use mathlib.Core.Logic.{⊎_elim}
@@ -12,8 +12,7 @@ use Rattle.base.specs.Limits.{max_passes}
 use Rattle.base.specs.declared.Rect.{Rect}
 use Rattle.base.specs.Grid.{area, Inside}
 use Rattle.base.specs.Loop.{up_to}
-use Rattle.tiling.specs.declared.Tiling.{Tiling}
-use Rattle.tiling.specs.Tiling.{Limits, image, side, tile_x, tile_y, tile, tiles, in_phase}
+use Rattle.tiling.specs.Tiling.{image, tile, tiles, in_phase}
 use Rattle.tiling.proofs.Sizes.{sizes, tile_sides}
 use Rattle.search.specs.Shared.{Shared}
 use Rattle.tile.specs.Tile.{State, state, refine_tile, no_progress}

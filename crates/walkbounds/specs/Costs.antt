@@ -1,11 +1,9 @@
 -- The costs that a visit of pixel (x, y) weighs, one for each move that the pixel may make. `toggle_weighs` and `swap_weighs` of
 -- proofs/Costs.antt: these are what the tries of the search compare with the best so far.
-use Rattle.std.specs.Prelude.{List, ℕ, Float}
+use Rattle.std.specs.Prelude.{List, ℕ, Float, Option, Some, None}
 use Rattle.base.specs.declared.Rect.{Rect}
 use Rattle.base.specs.Loop.{from_to}
 use Rattle.color.specs.Values.{less_of}
-use Rattle.neighbour.specs.declared.Adjacent.{Adjacent}
-use Rattle.neighbour.specs.declared.Adjacent.TheVariants.{Pixel, Outside}
 use Rattle.bounds.specs.Number.{Number}
 use Rattle.search.specs.declared.Move.{Move}
 use Rattle.search.specs.declared.Move.TheVariants.{Stay, Toggle, Swap}
@@ -23,9 +21,9 @@ abbrev pub toggle_cost_to : Shared → Rect → List Float → List ℕ → ℕ 
 toggle_cost_to S W cpe indices x y j = toggle_cost (centres S.cpp S.tiling) (less_of (ink_at S j) (ink_at S (index_at W indices x y))) (cpe_at W cpe x y)
 
 -- where a swap has no partner none is weighed
-abbrev pub swap_cost_of : Shared → Rect → List Float → List ℕ → ℕ → ℕ → ℕ → Adjacent → Float
-swap_cost_of S W cpe indices x y code (Pixel nx ny) = swap_cost_with S W cpe indices x y code nx ny
-swap_cost_of S W cpe indices x y code Outside = no_move.cost
+abbrev pub swap_cost_of : Shared → Rect → List Float → List ℕ → ℕ → ℕ → ℕ → Option (ℕ × ℕ) → Float
+swap_cost_of S W cpe indices x y code (Some (nx, ny)) = swap_cost_with S W cpe indices x y code nx ny
+swap_cost_of S W cpe indices x y code None = no_move.cost
 
 unfoldable pub cost_of : Shared → Rect → List Float → List ℕ → ℕ → ℕ → Move → Float
 cost_of S W cpe indices x y Stay = no_move.cost

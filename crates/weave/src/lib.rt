@@ -10,16 +10,14 @@ use tiling::Tiling;
 
 // Three lines of w values as one row of pixels, three values a pixel.
 fn weave(row: &mut [f64], lines: &[f64], w: usize)
-    requires { (length row.old ≡ 3 * w) × (length lines.now ≡ 3 * w) × (w ≤ max_side) }
+    requires { (length row.old ≡ 3 * w) × (length lines.now ≡ 3 * w) }
     ensures { row.new ≡ table (3 * w) (woven w lines.now) }
 {
-    let mut x = 0;
-    while x < w {
+    for x in 0..w {
         let j = 3 * x;
         row[j] = lines[x];
         row[j + 1] = lines[w + x];
         row[j + 2] = lines[w + w + x];
-        x += 1;
     }
 }
 
@@ -29,13 +27,10 @@ pub fn weave_rows(cpe: &mut [f64], t: Tiling, lines: &mut [f64])
     requires lines_len { (length lines.old ≡ 3 * t.width) × (length cpe.old ≡ 3 * (t.height * t.width)) }
     ensures { Woven t.width t.height cpe.old cpe.new }
 {
-    let w = t.width;
-    let n = 3 * w;
-    let mut y = 0;
-    while y < t.height {
-        let at = y * n;
-        copy::copy_values(&cpe[at..at + n], lines);
-        weave(&mut cpe[at..at + n], lines, w);
-        y += 1;
+    let n = 3 * t.width;
+    for y in 0..t.height {
+        let row = &mut cpe[y * n..y * n + n];
+        lines.copy_from_slice(row);
+        weave(row, lines, t.width);
     }
 }

@@ -1,109 +1,69 @@
 // The job record as the run of numbers that it is at the C boundary, read.
 #![tactic(auto)]
 
-ghost use Rattle.std.specs.Prelude.{◌≡◌, not, [], ◌∷◌, eqb, length};
+ghost use Rattle.std.specs.Prelude.{◌≡◌, not, [], ◌∷◌, eqb, length, IfOk};
 ghost use Rattle.base.specs.Refusal.{test, judge};
-ghost use Rattle.job.specs.Open.{zero_record};
-ghost use Rattle.job.specs.Words.{run_length, words_tests};
-ghost use Rattle.job.specs.Words as run;
+ghost use Rattle.base.specs.Answer.{status_of, Tested};
+ghost use Rattle.job.specs.Words.{run_length, words_tests, decode};
 
-use base::Status;
+use base::{Refusal, refuse_if};
 use job::{JobRecord, Plan};
 use tiling::Tiling;
 
 // Numbers in a run.
 pub const RECORD_LEN: usize = 12;
 
-// A call's answer with the record that it returns.
-#[derive(Clone, Copy)]
-pub struct Answer {
-    pub status: Status,
-    pub record: JobRecord,
+// Refusal 12 of a run's length.
+#[tactic(auto, unfolding(base::specs::Refusal::judge))]
+pub fn check_run(words: &[u64]) -> Result<(), Refusal>
+    ensures tested { status_of result ≡ judge (test (not (eqb (length words.now) run_length)) 12 0 ∷ []) }
+    ensures whole { IfOk result (λ _. length words.now ≡ run_length) }
+{
+    refuse_if(words.len() != RECORD_LEN, Refusal::Record)
 }
 
-// A refusal, with a record of zeros.
-pub fn refused(status: Status) -> Answer
-    ensures { (result.status ≡ status) × (result.record ≡ zero_record) }
+// The record of a run that a call is given, or refusal 12: the run's length, or a finished word that is neither 1 nor 0.
+#[tactic(auto, unfolding(job::specs::Words::words_tests, job::specs::Words::run_test, job::specs::Words::decode, base::specs::Refusal::judge))]
+pub fn read(words: &[u64]) -> Result<JobRecord, Refusal>
+    ensures tested { Tested result (words_tests words.now) (decode words.now) }
+    ensures whole { IfOk result (λ _. length words.now ≡ run_length) }
 {
+    let [
+        width,
+        height,
+        inks,
+        lum,
+        chroma,
+        allowed,
+        done,
+        phase,
+        accepted,
+        initial,
+        error,
+        finished,
+    ] = *words
+    else {
+        return Err(Refusal::Record);
+    };
+    refuse_if(finished > 1, Refusal::Record)?;
     let tiling = Tiling {
-        width: 0,
-        height: 0,
-        lum: 0,
-        chroma: 0,
+        width: width as usize,
+        height: height as usize,
+        lum: lum as usize,
+        chroma: chroma as usize,
     };
     let plan = Plan {
         tiling,
-        inks: 0,
-        allowed: 0,
-        initial: 0.0,
+        inks,
+        allowed,
+        initial: bits::to_float(initial),
     };
-    let record = JobRecord {
+    Ok(JobRecord {
         plan,
-        done: 0,
-        phase: 0,
-        accepted: 0,
-        error: 0.0,
-        finished: false,
-    };
-    Answer { status, record }
-}
-
-// Refusal 12 of a run's length.
-pub fn check_run(words_len: usize) -> Status
-    ensures { result ≡ judge (test (not (eqb words_len run_length)) 12 0 ∷ []) }
-{
-    base::next(base::ok(), words_len != RECORD_LEN, 12, 0)
-}
-
-// Refusal 12 of a run that is read: its length, or a finished word that is neither 1 nor 0.
-fn check_words(words: &[u64]) -> Status
-    ensures { result ≡ judge (words_tests words.now) }
-{
-    let s = base::next(base::ok(), words.len() != RECORD_LEN, 12, 0);
-    if s.number != 0 {
-        return s;
-    }
-    base::next(s, words[11] > 1, 12, 0)
-}
-
-// The record of a run.
-fn decode(words: &[u64]) -> JobRecord
-    requires { length words.now ≡ run_length }
-    ensures { result ≡ run.decode words.now }
-{
-    let t = Tiling {
-        width: words[0] as usize,
-        height: words[1] as usize,
-        lum: words[3] as usize,
-        chroma: words[4] as usize,
-    };
-    let plan = Plan {
-        tiling: t,
-        inks: words[2],
-        allowed: words[5],
-        initial: bits::to_float(words[9]),
-    };
-    JobRecord {
-        plan,
-        done: words[6],
-        phase: words[7],
-        accepted: words[8],
-        error: bits::to_float(words[10]),
-        finished: words[11] == 1,
-    }
-}
-
-// A run that a call is given, as its record.
-pub fn read(words: &[u64]) -> Answer
-    ensures status_value { result.status ≡ judge (words_tests words.now) }
-    ensures words_len { result.status.number ≡ 0 → (length words.now ≡ run_length) × (result.record ≡ run.decode words.now) }
-{
-    let status = check_words(words);
-    if status.number != 0 {
-        return refused(status);
-    }
-    Answer {
-        status,
-        record: decode(words),
-    }
+        done,
+        phase,
+        accepted,
+        error: bits::to_float(error),
+        finished: finished == 1,
+    })
 }

@@ -3,18 +3,22 @@
 #![tactic(auto)]
 
 ghost use Rattle.std.specs.Prelude.{◌≡◌};
+ghost use Rattle.std.specs.Result.{result_unwrap_or};
 ghost use Rattle.progress.specs.Progress.{progress_of};
-ghost use Rattle.base.specs.F64.{f0};
+ghost use Rattle.base.specs.Answer.{status_of};
 ghost use Rattle.base.specs.Refusal.{status};
-ghost use Rattle.tile.specs.Tile.{state};
+ghost use Rattle.tile.specs.Tile.{state, no_progress};
 ghost use Rattle.job.specs.Copy.{pixels};
 ghost use Rattle.job.specs.Boundary.{work_run};
 ghost use Rattle.job.specs.Work.{worked, work_of};
 
-use base::{Index, Status};
+use base::{Index, Refusal, Status};
 use job::JobRecord;
+use progress::Progress;
+use search::Setup;
 
 // Moves accepted and the sum of their costs, or a refusal with zeros.
+// Kept: C reads number and place here, so that it is no `Result`.
 #[repr(C)]
 #[derive(Clone, Copy)]
 pub struct DbsWorked {
@@ -24,15 +28,27 @@ pub struct DbsWorked {
     pub delta: f64,
 }
 
-// A refusal, with no moves.
-fn refused(status: Status) -> DbsWorked
-    ensures { result ≡ record { number = status.number; place = status.place; accepted = 0; delta = f0 } }
-{
-    DbsWorked {
-        number: status.number,
-        place: status.place,
-        accepted: 0,
-        delta: 0.0,
+impl From<Result<Progress, Refusal>> for DbsWorked {
+    ghost from_gives = { λ made w. (status w.number w.place ≡ status_of made) × (progress_of w.accepted w.delta ≡ result_unwrap_or made no_progress) };
+
+    fn from(made: Result<Progress, Refusal>) -> DbsWorked {
+        match made {
+            Ok(progress) => DbsWorked {
+                number: 0,
+                place: 0,
+                accepted: progress.accepted as u64,
+                delta: progress.delta,
+            },
+            Err(refusal) => {
+                let status = Status::from(refusal);
+                DbsWorked {
+                    number: status.number,
+                    place: status.place,
+                    accepted: 0,
+                    delta: 0.0,
+                }
+            }
+        }
     }
 }
 
@@ -45,34 +61,22 @@ fn work(
     copy_cpe: &mut [f64],
     copy_indices: &mut [Index],
     inks: &[f64],
-) -> DbsWorked
-    ensures { worked (status result.number result.place) (state copy_cpe.new copy_indices.new (progress_of result.accepted result.delta)) ≡ work_of r tile pinned.now cpp.now (pixels copy_cpe.old copy_indices.old) inks.now }
+) -> Result<Progress, Refusal>
+    ensures { worked (status_of result) (state copy_cpe.new copy_indices.new (result_unwrap_or result no_progress)) ≡ work_of r tile pinned.now cpp.now (pixels copy_cpe.old copy_indices.old) inks.now }
 {
-    let status = worktests::check_work(r, tile, pinned, cpp, copy_cpe, copy_indices, inks);
-    if status.number != 0 {
-        return refused(status);
-    }
+    worktests::check_work(r, tile, pinned, cpp, copy_cpe, copy_indices, inks)?;
     let plan = r.plan;
     let t = plan.tiling;
-    let region = tiling::region_rect(t, tile as usize);
-    let rect = tiling::tile_rect(t, tile as usize);
-    let made = tile::refine_tile(
-        copy_cpe,
-        copy_indices,
+    let region = t.region_rect(tile as usize);
+    let rect = t.tile_rect(tile as usize);
+    let setup = Setup {
+        tiling: t,
+        count: plan.inks as usize,
         pinned,
         inks,
         cpp,
-        plan.inks as usize,
-        t,
-        region,
-        rect,
-    );
-    DbsWorked {
-        number: status.number,
-        place: status.place,
-        accepted: made.accepted as u64,
-        delta: made.delta,
-    }
+    };
+    Ok(tile::refine_tile(copy_cpe, copy_indices, setup, region, rect))
 }
 
 // The same on the run that the record is for a C host, which is only read.
@@ -84,13 +88,9 @@ pub fn work_run(
     copy_cpe: &mut [f64],
     copy_indices: &mut [Index],
     inks: &[f64],
-) -> DbsWorked
-    ensures { worked (status result.number result.place) (state copy_cpe.new copy_indices.new (progress_of result.accepted result.delta)) ≡ work_run «record».now tile pinned.now cpp.now (pixels copy_cpe.old copy_indices.old) inks.now }
+) -> Result<Progress, Refusal>
+    ensures { worked (status_of result) (state copy_cpe.new copy_indices.new (result_unwrap_or result no_progress)) ≡ work_run «record».now tile pinned.now cpp.now (pixels copy_cpe.old copy_indices.old) inks.now }
 {
-    let run = words::read(record);
-    let status = run.status;
-    if status.number != 0 {
-        return refused(status);
-    }
-    work(run.record, tile, pinned, cpp, copy_cpe, copy_indices, inks)
+    let r = words::read(record)?;
+    work(r, tile, pinned, cpp, copy_cpe, copy_indices, inks)
 }

@@ -2,13 +2,10 @@
 #![tactic(auto)]
 
 ghost use Rattle.std.specs.Prelude.{◌≡◌, length};
-ghost use Rattle.job.specs.Boundary.{words_opened, words_after};
 ghost use Rattle.job.specs.Words.{run_length, words_with, word_over, rewritten};
 ghost use Rattle.job.specs.Words as run;
 
-use base::Status;
 use job::JobRecord;
-use words::Answer;
 
 // The word of a float where another stood.
 fn word_over(old: u64, x: f64) -> u64
@@ -21,15 +18,6 @@ fn word_over(old: u64, x: f64) -> u64
         return old;
     }
     bits::of_float(x)
-}
-
-fn copy_words(from: &[u64], to: &mut [u64])
-    requires { length from.now ≡ length to.old }
-    ensures { to.new ≡ from.now }
-{
-    for i in 0..to.len() {
-        to[i] = from[i];
-    }
 }
 
 // A record with the words of its errors.
@@ -53,11 +41,11 @@ fn write_words(words: &mut [u64], r: JobRecord, initial: u64, error: u64)
         error,
         r.finished as u64,
     ];
-    copy_words(&run, words);
+    words.copy_from_slice(&run);
 }
 
-// A run that holds this record.
-fn encode(words: &mut [u64], r: JobRecord)
+// The run of an accepted open, which holds its record.
+pub fn encode(words: &mut [u64], r: JobRecord)
     requires { length words.old ≡ run_length }
     ensures { words.new ≡ run.encode r }
 {
@@ -67,8 +55,8 @@ fn encode(words: &mut [u64], r: JobRecord)
     write_words(words, r, initial, error);
 }
 
-// The run after a call that was given it and returned this record.
-fn rewrite(words: &mut [u64], r: JobRecord)
+// The run of an accepted call that was given it and returned this record.
+pub fn rewrite(words: &mut [u64], r: JobRecord)
     requires { length words.old ≡ run_length }
     ensures { words.new ≡ rewritten words.old r }
 {
@@ -76,28 +64,4 @@ fn rewrite(words: &mut [u64], r: JobRecord)
     let initial = word_over(words[9], plan.initial);
     let error = word_over(words[10], r.error);
     write_words(words, r, initial, error);
-}
-
-// The answer of a call that was given this run: where it is accepted the run is rewritten.
-pub fn leave(words: &mut [u64], a: Answer) -> Status
-    requires { length words.old ≡ run_length }
-    ensures { (result ≡ a.status) × (words.new ≡ words_after words.old a.status a.record) }
-{
-    let status = a.status;
-    if base::is_accepted(status) {
-        rewrite(words, a.record);
-    }
-    status
-}
-
-// The answer of an open: where it is accepted the run is written.
-pub fn enter(words: &mut [u64], a: Answer) -> Status
-    requires { length words.old ≡ run_length }
-    ensures { (result ≡ a.status) × (words.new ≡ words_opened words.old a.status a.record) }
-{
-    let status = a.status;
-    if base::is_accepted(status) {
-        encode(words, a.record);
-    }
-    status
 }

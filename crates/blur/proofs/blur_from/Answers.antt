@@ -23,7 +23,7 @@ within : (c : In-loop-i) → let n = length (line c) in let i = c.loop-i.i in (i
 within c = in_square (length (line c)) c.loop-i.i (omega arith) (omega arith)
 
 pub offset_bounds-g-i : goal.offset_bounds-g-i
-offset_bounds-g-i c = omega (arith, within c)
+offset_bounds-g-i c = omega (arith, within (goal.at.offset_bounds-g-i c).In-loop-i)
 
 pub bounds-g-i : goal.bounds-g-i
 bounds-g-i c = (within (goal.at.bounds-g-i c).In-loop-i).0

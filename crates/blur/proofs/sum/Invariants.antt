@@ -7,5 +7,5 @@ use Rattle.base.specs.Loop.{up_to}
 use Rattle.base.specs.F64.{◌+f◌, f0}
 use Rattle.blur.proofs.sum.Given as goal
 
-abbrev pub invariant-loop-i : goal.invariant-loop-i
-invariant-loop-i l = (l.i ≤ length l.g) × (l.i-end ≡ length l.g) × (l.total ≡ up_to (λ i s. s +f get_or l.g i nan) l.i f0)
+abbrev pub invariant-loop-x : goal.invariant-loop-x
+invariant-loop-x l = l.total ≡ up_to (λ i s. s +f get_or l.g i nan) l.x-index f0

@@ -1,8 +1,9 @@
 -- `close` meets its contract: a refusal keeps all, and a valid close joins the deltas and goes on to the next phase. Assumes nothing.
 use native.Mathlib.Omega.{arith}
-use mathlib.Core.Path.{◌≡◌}
-use Rattle.base.specs.declared.Status.{Status}
-use Rattle.base.specs.Refusal.{judge}
+use mathlib.Core.Path.{◌≡◌, refl}
+use Rattle.std.proofs.lemmas.Result.{err_from_is_err_and}
+use Rattle.base.specs.Refusal.{judge, accepted}
+use Rattle.base.proofs.JudgeLaws.{refusal_ne}
 use Rattle.job.specs.Close.{close_tests, next_record}
 use Rattle.job.specs.Valid.{ValidClose}
 use Rattle.job.proofs.Answers.{close_answers}
@@ -11,35 +12,36 @@ use Rattle.records.proofs.RecordLaws.{limits_of, few_pixels}
 use Rattle.close.proofs.close.Goals.{Start}
 use Rattle.close.proofs.close.Goals as goal
 
-valid : (s : Start) {u : Status} → u ≡ judge (close_tests s.args.r s.args.accepted_per_pass.now s.args.tile_states.now s.args.deltas.now) → u.number ≡ 0 →
+valid : (s : Start) → accepted ≡ judge (close_tests s.args.r s.args.accepted_per_pass.now s.args.tile_states.now s.args.deltas.now) →
     ValidClose s.args.r s.args.accepted_per_pass.now s.args.tile_states.now s.args.deltas.now
-valid s e z = (close_passes _ _ _ _).0 ((close_answers s.args.r s.args.accepted_per_pass.now s.args.tile_states.now s.args.deltas.now).passed _ e z)
+valid s e = (close_passes _ _ _ _).0 ((close_answers s.args.r s.args.accepted_per_pass.now s.args.tile_states.now s.args.deltas.now).passed accepted e refl)
 
-pub returns-then-status-ne0 : goal.returns-then-status-ne0
-returns-then-status-ne0 c =
+pub returns-in_err-check_close : goal.returns-in_err-check_close
+returns-in_err-check_close c =
     let a = c.args in
-    (close_answers a.r a.accepted_per_pass.now a.tile_states.now a.deltas.now).kept _ c.check_close-status.ensures c.if-status-ne0.true
+    let p = err_from_is_err_and c.from_residual.result c.from_residual.ensures.1 in
+    rw (p.1, p.2) ((close_answers a.r a.accepted_per_pass.now a.tile_states.now a.deltas.now).kept _ c.in_err-check_close.ensures (refusal_ne _))
 
 pub add_deltas-error-requires : goal.add_deltas-error-requires
 add_deltas-error-requires c =
     let start = (goal.at.add_deltas-error-requires c).Start in
-    limits_of c.args.r (valid start c.check_close-status.ensures c.if-status-ne0.false).valid
+    limits_of c.args.r (valid start c.in_ok-check_close.ensures).valid
 
 pub release-requires : goal.release-requires
 release-requires c =
     let start = (goal.at.release-requires c).Start in
-    let v = valid start c.check_close-status.ensures c.if-status-ne0.false in record { limits = limits_of c.args.r v.valid; tile_states_len = v.states_length }
+    let v = valid start c.in_ok-check_close.ensures in record { limits = limits_of c.args.r v.valid; tile_states_len = v.states_length }
 
 pub store_count-requires : goal.store_count-requires
 store_count-requires c =
     let start = (goal.at.store_count-requires c).Start in
-    let v = valid start c.check_close-status.ensures c.if-status-ne0.false in
+    let v = valid start c.in_ok-check_close.ensures in
     (omega (arith, v.valid.left v.unfinished, v.counts_length), omega (arith, v.valid.accepted_most, few_pixels c.args.r v.valid))
 
 pub next_record-requires : goal.next_record-requires
 next_record-requires c =
     let earlier = (goal.at.next_record-requires c).Start in
-    let v = valid earlier c.check_close-status.ensures c.if-status-ne0.false in record { phase_bound = v.valid.phase_most; done_le_max_passes = omega (arith, v.valid.done_most, v.valid.allowed_most) }
+    let v = valid earlier c.in_ok-check_close.ensures in record { phase_bound = v.valid.phase_most; done_le_max_passes = omega (arith, v.valid.done_most, v.valid.allowed_most) }
 
 pub returns : goal.returns
 unfolding next_record
@@ -47,6 +49,6 @@ returns c =
     let start = (goal.at.returns c).Start in
     let a = c.args in
     let r = c.args.r in
-    let v = valid start c.check_close-status.ensures c.if-status-ne0.false in
+    let v = valid start c.in_ok-check_close.ensures in
     rw (c.next_record.ensures, c.store_count.ensures, c.release.ensures, c.add_deltas-error.ensures, v.deltas_length)
-    ((close_answers r a.accepted_per_pass.now a.tile_states.now a.deltas.now).made _ c.check_close-status.ensures c.if-status-ne0.false)
+    ((close_answers r a.accepted_per_pass.now a.tile_states.now a.deltas.now).made accepted c.in_ok-check_close.ensures refl)

@@ -27,4 +27,4 @@ unfolding is_missing
 returns c =
     let h = c.loop-i.invariant in
     let e : c.loop-i.i ≡ tiles c.args.r.plan.tiling = omega (arith, c.loop-i-test.false, h.0, c.requires.tile_states_len) in
-    e ∙ sym (none_first _ (tiles c.args.r.plan.tiling) (λ j q. h.1 j (omega (arith, q, e))))
+    c.requires.tile_states_len ∙ sym (none_first _ (tiles c.args.r.plan.tiling) (λ j q. h.1 j (omega (arith, q, e))))

@@ -10,6 +10,3 @@ use Rattle.closetests.proofs.first_missing.Given as goal
 
 abbrev pub invariant-loop-i : goal.invariant-loop-i
 invariant-loop-i l = (l.i ≤ length l.tile_states) × NoneBefore (λ j. in_phase l.t l.phase j && not (is_in Back l.tile_states j)) l.i
-
-abbrev pub decreases-loop-i : goal.decreases-loop-i
-decreases-loop-i l = length l.tile_states - l.i

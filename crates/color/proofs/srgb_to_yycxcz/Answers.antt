@@ -6,4 +6,4 @@ use Rattle.color.proofs.srgb_to_yycxcz.Goals as goal
 
 pub returns : goal.returns
 unfolding yycxcz of_bits of_int round add
-returns c = rw (c.srgb_channel_to_linear-b.ensures.value, c.srgb_channel_to_linear-g.ensures.value, c.srgb_channel_to_linear-r.ensures.value) refl
+returns c = rw (c.linear-b.ensures.value, c.linear-g.ensures.value, c.linear-r.ensures.value) refl

@@ -6,5 +6,6 @@ use Rattle.correlate.proofs.correlate_row.Goals as goal
 
 pub returns : goal.returns
 returns c =
-    let hi = c.smaller-hi in
-    row_made c.args.values.now c.args.taps.now c.args.lead c.smaller-lo.result hi.result (length c.args.sums.now) c.by_fours-left.result _ _ _ _ _ (omega (arith, c.if-hi-lo.false)) (omega (arith, hi.ensures)) c.by_fours-left.ensures.upper_bound c.by_ones-2.ensures c.by_fours-left.ensures.changed c.by_ones-3.ensures c.by_ones-4.ensures
+    let row = c.args.row in
+    let left = c.by_fours-left in
+    row_made row.values.now row.taps.now row.lead c.min-lo.result c.min-hi.result (length c.args.sums.now) left.result _ _ _ _ _ (omega arith) (omega arith) left.ensures.upper_bound c.by_ones-2.ensures left.ensures.changed c.by_ones-3.ensures c.by_ones-4.ensures

@@ -1,12 +1,12 @@
 -- `channel_kernel` meets its contract: the definition's two cases. Assumes nothing.
-use mathlib.Core.Path.{◌∙◌}
+use mathlib.Core.Logic.{⊎_elim}
 use Rattle.field.specs.Field.{channel_kernel}
-use Rattle.field.proofs.FieldLaws.{kernel_chroma}
 use Rattle.field.proofs.channel_kernel.Goals as goal
 
-pub returns-then-c-eq0 : goal.returns-then-c-eq0
+pub returns-in-Yy : goal.returns-in-Yy
 unfolding channel_kernel
-returns-then-c-eq0 c = rw c.if-c-eq0.true c.lum_kernel.ensures
+returns-in-Yy c = rw c.in-Yy.is c.lum_kernel.ensures
 
-pub returns : goal.returns
-returns c = c.chroma_kernel.ensures ∙ kernel_chroma c.args.t c.args.c c.if-c-eq0.false
+pub returns-in-Cx : goal.returns-in-Cx
+unfolding channel_kernel
+returns-in-Cx c = ⊎_elim (λ e. rw e c.chroma_kernel.ensures) (λ e. rw e c.chroma_kernel.ensures) c.in-Cx.is

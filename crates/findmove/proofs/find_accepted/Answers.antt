@@ -1,5 +1,6 @@
 -- `findmove::find_accepted` meets its contract: the search starts from what was built. Assumes nothing.
-use Rattle.input.specs.Input.{Input, input}
+use Rattle.input.specs.Inputs.{input_of}
+use Rattle.input.specs.Input.{Input}
 use Rattle.prepare.proofs.Laws.{built_ready}
 use Rattle.findmove.proofs.Laws.{searches_as}
 use Rattle.findmove.proofs.find_accepted.Goals.{Start}
@@ -7,7 +8,7 @@ use Rattle.findmove.proofs.find_accepted.Goals as goal
 
 -- the input
 abbrev I : Start → Input
-I s = input s.args.t.width s.args.t.height s.args.pixels.now s.args.palette.now s.args.indices.now s.args.pinned.now s.args.params
+I s = input_of s.args.given
 
 pub first_in_pass-requires : goal.first_in_pass-requires
 first_in_pass-requires c =

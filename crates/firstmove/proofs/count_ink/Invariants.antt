@@ -6,4 +6,4 @@ use Rattle.firstmove.specs.Copies.{count_of}
 use Rattle.firstmove.proofs.count_ink.Given as goal
 
 abbrev pub invariant-loop-i : goal.invariant-loop-i
-invariant-loop-i l = (l.i ≤ l.i-end) × (l.n ≤ l.i) × (l.n + count_of l.k (drop l.i l.indices) ≡ count_of l.k l.indices)
+invariant-loop-i l = (l.i-index ≤ l.i-index-end) × (l.n ≤ l.i-index) × (l.n + count_of l.k (drop l.i-index l.indices) ≡ count_of l.k l.indices)

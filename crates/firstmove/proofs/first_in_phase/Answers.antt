@@ -19,25 +19,25 @@ use Rattle.firstmove.proofs.first_in_phase.Goals as goal
 -- ---- places: the function's start, the tile that a turn looks at, and the row and the column that it is in
 
 abbrev S : Start → Shared
-S s = shared_of s.args.g s.args.pinned.now s.args.inks.now s.args.cpp.now
+S s = shared_of s.args.s
 
 -- ---- the tile
 
-in_count : (c : In-tiles) → c.tiles.tile < tiles c.args.g.tiling
+in_count : (c : In-tiles) → c.tiles.tile < tiles c.args.s.tiling
 in_count c = omega (arith, c.tiles-test.true, c.tile_count-tile-end.ensures)
 
 some : (c : After-tile_rect-q) → (c.tile_rect-q.result.x0 < c.tile_rect-q.result.x1) × (c.tile_rect-q.result.y0 < c.tile_rect-q.result.y1)
-some c = let i = (goal.at.After-tile_rect-q c).In-tiles in rw c.tile_rect-q.ensures (tile_some c.args.g.tiling c.tiles.tile (in_count i))
+some c = let i = (goal.at.After-tile_rect-q c).In-tiles in rw c.tile_rect-q.ensures (tile_some c.args.s.tiling c.tiles.tile (in_count i))
 
 of-phase : (c : After-tile_rect-q) →
-    in_phase c.args.g.tiling c.args.phase c.tiles.tile ≡ true
+    in_phase c.args.s.tiling c.args.phase c.tiles.tile ≡ true
 of-phase c = let e = c.is_in_phase in sym e.ensures ∙ affirmed e.result c.if-not-is_in_phase.false-raw
 
 -- the row of a turn
-row : (c : In-rows) → Row c.args.g.tiling (strip c.tile_rect-q.result c.rows.y)
+row : (c : In-rows) → Row c.args.s.tiling (strip c.tile_rect-q.result c.rows.y)
 row c =
     let q = (goal.at.In-rows c).After-tile_rect-q in
-    strip_row c.args.g.tiling c.requires.ready.limits c.tiles.tile c.tile_rect-q.result c.tile_rect-q.ensures c.rows.y (some q).0 c.rows-test.true
+    strip_row c.args.s.tiling c.requires.ready.limits c.tiles.tile c.tile_rect-q.result c.tile_rect-q.ensures c.rows.y (some q).0 c.rows-test.true
 
 -- ---- what is left to show
 
@@ -100,7 +100,7 @@ pub columns-preserved : goal.columns-preserved
 columns-preserved c =
     let l = c.columns in
     let s = (goal.at.columns-preserved c).Start in
-    let here = column_none (S s) c.args.cpe.now c.args.indices.now l.x c.rows.y c.move_at-here.result c.move_at-here.ensures (sym c.is_move.ensures ∙ c.if-is_move.false) in (
+    let here = column_none (S s) c.args.cpe.now c.args.indices.now l.x c.rows.y c.move_at-here.result c.move_at-here.ensures (sym c.is_some.ensures ∙ c.if-is_some.false) in (
       omega (arith, l.invariant.0),
       omega (arith, c.columns-test.true),
       l.invariant.2,
@@ -135,21 +135,21 @@ returns-after-tiles c =
     let s = (goal.at.returns-after-tiles c).Start in
     l.invariant.1 ∙ sym (phase_none (S s) c.args.cpe.now c.args.indices.now c.args.phase l.tile (omega (arith, l.invariant.0, c.tile_count-tile-end.ensures, c.tiles-test.false)) l.invariant.2)
 
-pub shape_of-copy_cpe-then-is_move : goal.shape_of-copy_cpe-then-is_move
-shape_of-copy_cpe-then-is_move c = c.move_at-here.auto.copy_cpe ∙ c.columns.invariant.4.0 ∙ sym c.requires.copy_cpe_len.0
+pub shape_of-copy_cpe-then-is_some : goal.shape_of-copy_cpe-then-is_some
+shape_of-copy_cpe-then-is_some c = c.move_at-here.auto.copy_cpe ∙ c.columns.invariant.4.0 ∙ sym c.requires.copy_cpe_len.0
 
-pub shape_of-copy_indices-then-is_move : goal.shape_of-copy_indices-then-is_move
-shape_of-copy_indices-then-is_move c = c.move_at-here.auto.copy_indices ∙ c.columns.invariant.4.1 ∙ sym c.requires.copy_cpe_len.1
+pub shape_of-copy_indices-then-is_some : goal.shape_of-copy_indices-then-is_some
+shape_of-copy_indices-then-is_some c = c.move_at-here.auto.copy_indices ∙ c.columns.invariant.4.1 ∙ sym c.requires.copy_cpe_len.1
 
-pub returns-then-is_move : goal.returns-then-is_move
-returns-then-is_move c =
+pub returns-then-is_some : goal.returns-then-is_some
+returns-then-is_some c =
     let x = c.columns in
     let y = c.rows in
-    let q = (goal.at.returns-then-is_move c).After-tile_rect-q in
-    let t = (goal.at.returns-then-is_move c).In-tiles in
+    let q = (goal.at.returns-then-is_some c).After-tile_rect-q in
+    let t = (goal.at.returns-then-is_some c).In-tiles in
     let l = c.tiles in
-    let s = (goal.at.returns-then-is_move c).Start in
-    let moves = sym c.is_move.ensures ∙ c.if-is_move.true in
+    let s = (goal.at.returns-then-is_some c).Start in
+    let moves = sym c.is_some.ensures ∙ c.if-is_some.true in
     let row = row_left (S s) c.args.cpe.now c.args.indices.now c.tile_rect-q.result y.y x.x c.move_at-here.result x.invariant.0 c.columns-test.true x.invariant.3 c.move_at-here.ensures moves in
     let tile = tile_left (S s) c.args.cpe.now c.args.indices.now c.args.phase l.tile c.tile_rect-q.result c.tile_rect-q.ensures (of-phase q) y.y c.move_at-here.result y.invariant.0 c.rows-test.true y.invariant.3 row moves in
     sym (phase_left (S s) c.args.cpe.now c.args.indices.now c.args.phase l.tile c.move_at-here.result (in_count t) l.invariant.2 tile moves)

@@ -1,16 +1,16 @@
 -- `firstmove::first_in_phases` meets its contract: nothing was found in the phases before, and what is found in one is the pass's. Assumes nothing.
 use native.Mathlib.Omega.{arith}
 use mathlib.Core.Path.{sym, ◌∙◌}
+use Rattle.std.specs.Prelude.{None}
 use Rattle.base.proofs.LoopLaws.{up_to_none}
 use Rattle.search.specs.Shared.{Shared, shared_of}
-use Rattle.firstmove.specs.declared.First.TheVariants.{Nothing}
 use Rattle.firstmove.specs.FirstMove.{first_in_phase}
 use Rattle.firstmove.proofs.Laws.{told_none, up_to_none_more, pass_none, pass_left}
 use Rattle.firstmove.proofs.first_in_phases.Goals.{Start}
 use Rattle.firstmove.proofs.first_in_phases.Goals as goal
 
 abbrev S : Start → Shared
-S s = shared_of s.args.g s.args.pinned.now s.args.inks.now s.args.cpp.now
+S s = shared_of s.args.s
 
 pub loop-phase-init : goal.loop-phase-init
 loop-phase-init c = (omega arith, up_to_none _ _, c.requires.copy_cpe_len.0, c.requires.copy_cpe_len.1)
@@ -18,24 +18,24 @@ loop-phase-init c = (omega arith, up_to_none _ _, c.requires.copy_cpe_len.0, c.r
 pub first_in_phase-first-requires : goal.first_in_phase-first-requires
 first_in_phase-first-requires c = record { ready = c.requires.ready; copy_cpe_len = (c.loop-phase.invariant.2, c.loop-phase.invariant.3) }
 
-pub shape_of-copy_cpe-then-is_move : goal.shape_of-copy_cpe-then-is_move
-shape_of-copy_cpe-then-is_move c = c.first_in_phase-first.auto.copy_cpe ∙ c.loop-phase.invariant.2 ∙ sym c.requires.copy_cpe_len.0
+pub shape_of-copy_cpe-then-is_some : goal.shape_of-copy_cpe-then-is_some
+shape_of-copy_cpe-then-is_some c = c.first_in_phase-first.auto.copy_cpe ∙ c.loop-phase.invariant.2 ∙ sym c.requires.copy_cpe_len.0
 
-pub shape_of-copy_indices-then-is_move : goal.shape_of-copy_indices-then-is_move
-shape_of-copy_indices-then-is_move c = c.first_in_phase-first.auto.copy_indices ∙ c.loop-phase.invariant.3 ∙ sym c.requires.copy_cpe_len.1
+pub shape_of-copy_indices-then-is_some : goal.shape_of-copy_indices-then-is_some
+shape_of-copy_indices-then-is_some c = c.first_in_phase-first.auto.copy_indices ∙ c.loop-phase.invariant.3 ∙ sym c.requires.copy_cpe_len.1
 
-pub returns-then-is_move : goal.returns-then-is_move
-returns-then-is_move c =
+pub returns-then-is_some : goal.returns-then-is_some
+returns-then-is_some c =
     let l = c.loop-phase in
-    let s = (goal.at.returns-then-is_move c).Start in
-    sym (pass_left (S s) c.args.cpe.now c.args.indices.now l.phase c.first_in_phase-first.result (omega (arith, c.loop-phase-test.true)) l.invariant.1 c.first_in_phase-first.ensures (sym c.is_move.ensures ∙ c.if-is_move.true))
+    let s = (goal.at.returns-then-is_some c).Start in
+    sym (pass_left (S s) c.args.cpe.now c.args.indices.now l.phase c.first_in_phase-first.result (omega (arith, c.loop-phase-test.true)) l.invariant.1 c.first_in_phase-first.ensures (sym c.is_some.ensures ∙ c.if-is_some.true))
 
 pub loop-phase-preserved : goal.loop-phase-preserved
 loop-phase-preserved c =
     let l = c.loop-phase in
     let s = (goal.at.loop-phase-preserved c).Start in
     let P = first_in_phase (S s) c.args.cpe.now c.args.indices.now in
-    let here = told_none (P l.phase Nothing) c.first_in_phase-first.result c.first_in_phase-first.ensures (sym c.is_move.ensures ∙ c.if-is_move.false) in
+    let here = told_none (P l.phase None) c.first_in_phase-first.result c.first_in_phase-first.ensures (sym c.is_some.ensures ∙ c.if-is_some.false) in
     (omega (arith, c.loop-phase-test.true), up_to_none_more P l.phase l.invariant.1 here, c.first_in_phase-first.auto.copy_cpe ∙ l.invariant.2, c.first_in_phase-first.auto.copy_indices ∙ l.invariant.3)
 
 pub shape_of-copy_cpe : goal.shape_of-copy_cpe

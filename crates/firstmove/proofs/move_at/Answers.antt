@@ -11,7 +11,7 @@ use Rattle.firstmove.proofs.move_at.Goals.{After-around-w, Start}
 use Rattle.firstmove.proofs.move_at.Goals as goal
 
 abbrev T : Start → Tiling
-T s = s.args.g.tiling
+T s = s.args.s.tiling
 
 abbrev Q : Start → Rect
 Q s = one_pixel s.args.x s.args.y
@@ -32,7 +32,10 @@ pub overflow_add-q-2 : goal.overflow_add-q-2
 overflow_add-q-2 c = omega (arith, c.requires.x_lt_width.1, c.requires.ready.limits.height_limit)
 
 pub around-w-requires : goal.around-w-requires
-around-w-requires c = let s = (goal.at.around-w-requires c).Start in (row s).part
+around-w-requires c =
+    let p = (row (goal.at.around-w-requires c).Start).part in
+    let l = c.requires.ready.limits in
+    (omega (arith, p.in_x, l.width_limit), omega (arith, p.in_y, l.height_limit))
 
 pub overflow_sub-n : goal.overflow_sub-n
 overflow_sub-n c = (order (T (goal.at.overflow_sub-n c).Start) (Q (goal.at.overflow_sub-n c).Start) (row (goal.at.overflow_sub-n c).Start) c.around-w.result c.around-w.ensures).1
@@ -43,14 +46,20 @@ overflow_sub-n-2 c = (order (T (goal.at.overflow_sub-n-2 c).Start) (Q (goal.at.o
 pub overflow_mul-n : goal.overflow_mul-n
 overflow_mul-n c = let a = (goal.at.overflow_mul-n c).After-around-w in omega (arith, most a)
 
-pub overflow_mul-values : goal.overflow_mul-values
-overflow_mul-values c = let a = (goal.at.overflow_mul-values c).After-around-w in omega (arith, most a)
+pub overflow_mul-n-2 : goal.overflow_mul-n-2
+overflow_mul-n-2 c = let a = (goal.at.overflow_mul-n-2 c).After-around-w in omega (arith, most a)
 
 pub slice_bounds-pixel_move-end : goal.slice_bounds-pixel_move-end
 slice_bounds-pixel_move-end c = let a = (goal.at.slice_bounds-pixel_move-end c).After-around-w in omega (arith, most a, c.requires.copy_cpe_len.0)
 
 pub slice_bounds-pixel_move-end-2 : goal.slice_bounds-pixel_move-end-2
-slice_bounds-pixel_move-end-2 c = let a = (goal.at.slice_bounds-pixel_move-end-2 c).After-around-w in omega (arith, most a, c.requires.copy_cpe_len.1)
+slice_bounds-pixel_move-end-2 c = sym (taken _ _ _ 621 c.requires.copy_cpe_len.0 (omega (arith, most (goal.at.slice_bounds-pixel_move-end-2 c).After-around-w)) refl)
+
+pub slice_bounds-pixel_move-end-3 : goal.slice_bounds-pixel_move-end-3
+slice_bounds-pixel_move-end-3 c = let a = (goal.at.slice_bounds-pixel_move-end-3 c).After-around-w in omega (arith, most a, c.requires.copy_cpe_len.1)
+
+pub slice_bounds-pixel_move-end-4 : goal.slice_bounds-pixel_move-end-4
+slice_bounds-pixel_move-end-4 c = sym (taken _ _ _ 207 c.requires.copy_cpe_len.1 (most (goal.at.slice_bounds-pixel_move-end-4 c).After-around-w) refl)
 
 pub pixel_move-requires : goal.pixel_move-requires
 pixel_move-requires c =

@@ -1,24 +1,29 @@
 -- `firstmove::pixel_move` meets its contract: the walk over the pixel, on a copy, tells its move. Assumes nothing.
-use Prim.Native.Nat.{◌*◌, ◌≤◌}
+use Prim.Native.Nat.{◌+◌, ◌*◌, ◌≤◌}
 use native.Mathlib.Omega.{arith}
-use mathlib.Core.Path.{◌≡◌, ap, ◌∙◌}
+use mathlib.Core.Path.{◌≡◌, sym, ap, ◌∙◌}
+use lib.Dec.{eqb}
+use borrow.Author.Tests.{eq-eqb, ne_eqb}
+use Rattle.std.specs.Prelude.{Some}
+use Rattle.firstmove.specs.declared.Kind.{Kind}
+use Rattle.firstmove.specs.FirstMove.{first_move}
 use lib.ListN.{length}
 use Rattle.base.specs.declared.Rect.{Rect}
 use Rattle.base.specs.Grid.{area}
 use Rattle.base.specs.Limits.{max_pixels}
 use Rattle.search.specs.Shared.{Shared, shared_of, index_at}
-use Rattle.firstmove.specs.Copies.{count_of}
+use Rattle.firstmove.specs.Copies.{count_of, kind_of}
 use Rattle.firstmove.proofs.Copies.{holds_as}
-use Rattle.firstmove.proofs.Rooms.{room, area_is, pixel_row, pixel_fits, image_index, stays_as, moves_as}
-use Rattle.firstmove.proofs.pixel_move.Goals.{After-fill_copy, Start}
+use Rattle.firstmove.proofs.Rooms.{room, area_is, pixel_row, image_index, stays_as, moves_as}
+use Rattle.firstmove.proofs.pixel_move.Goals.{After-fill_copy, Start, then-count_ink-ink, else-count_ink-ink}
 use Rattle.firstmove.proofs.pixel_move.Goals as goal
 
 abbrev S : Start → Shared
-S s = shared_of s.args.g s.args.pinned.now s.args.inks.now s.args.cpp.now
+S s = shared_of s.args.s
 
 -- the window's pixels
 few : (s : Start) → area s.args.w ≤ max_pixels
-few s = omega (arith, area_is s.args.w, room s.args.g.tiling s.args.q (pixel_row s.args.g.tiling s.args.q s.requires.one_pixel.0) s.args.w s.requires.one_pixel.1)
+few s = omega (arith, area_is s.args.w, room s.args.s.tiling s.args.q (pixel_row s.args.s.tiling s.args.q s.requires.one_pixel.0) s.args.w s.requires.one_pixel.1)
 
 values : (f : After-fill_copy) → length f.fill_copy.new.copy_cpe ≡ 3 * area f.args.w
 values f = f.fill_copy.auto.copy_cpe ∙ f.requires.copy_cpe_len.0
@@ -36,7 +41,7 @@ pub fill_copy-requires : goal.fill_copy-requires
 fill_copy-requires c =
     let s = (goal.at.fill_copy-requires c).Start in
     let a = c.args in
-    record { holds = holds_as (S s) a.cpe.now a.indices.now (length a.cpe.now) a.q a.w c.requires.one_pixel.1 (pixel_row a.g.tiling a.q c.requires.one_pixel.0).part c.requires.ready; cpe_len = (c.requires.ready.cpe, c.requires.ready.indices_room); copy_cpe_len = c.requires.copy_cpe_len }
+    record { holds = holds_as (S s) a.cpe.now a.indices.now (length a.cpe.now) a.q a.w c.requires.one_pixel.1 (pixel_row a.s.tiling a.q c.requires.one_pixel.0).part c.requires.ready; cpe_len = (c.requires.ready.cpe, c.requires.ready.indices_room); copy_cpe_len = c.requires.copy_cpe_len }
 
 pub count_ink-ink-requires : goal.count_ink-ink-requires
 count_ink-ink-requires c =
@@ -46,7 +51,7 @@ count_ink-ink-requires c =
 pub walk_copy-p-requires : goal.walk_copy-p-requires
 walk_copy-p-requires c =
     let f = (goal.at.walk_copy-p-requires c).After-fill_copy in
-    record { ready = c.requires.ready; part = ((pixel_row c.args.g.tiling c.args.q c.requires.one_pixel.0).part, c.requires.one_pixel.1); copy_cpe_len = (values f, indices f) }
+    record { ready = c.requires.ready; part = ((pixel_row c.args.s.tiling c.args.q c.requires.one_pixel.0).part, c.requires.one_pixel.1); copy_cpe_len = (values f, indices f) }
 
 pub returns-then-p-eq0 : goal.returns-then-p-eq0
 returns-then-p-eq0 c =
@@ -57,23 +62,18 @@ pub count_ink-requires : goal.count_ink-requires
 count_ink-requires c =
     omega (arith, few (goal.at.count_ink-requires c).Start, indices (goal.at.count_ink-requires c).After-fill_copy, c.walk_copy-p.auto.copy_indices)
 
-pub overflow_mul-q : goal.overflow_mul-q
-overflow_mul-q c =
-    let s = (goal.at.overflow_mul-q c).Start in
-    omega (arith, pixel_fits (S s) c.args.cpe.now c.args.indices.now (length c.args.cpe.now) c.args.q c.requires.one_pixel.0 c.requires.ready)
-
-pub overflow_add-q : goal.overflow_add-q
-overflow_add-q c =
-    let s = (goal.at.overflow_add-q c).Start in
-    omega (arith, pixel_fits (S s) c.args.cpe.now c.args.indices.now (length c.args.cpe.now) c.args.q c.requires.one_pixel.0 c.requires.ready)
-
 pub returns : goal.returns
 returns c =
     let s = (goal.at.returns c).Start in
+    let pixel = c.args.q.y0 * c.args.s.tiling.width + c.args.q.x0 in
+    let kind : c.if-count_ink-ink.kind ≡ kind_of (eqb c.count_ink.result c.count_ink-ink.result) = elim c.if-count_ink-ink.branch [
+      | then-count_ink-ink w ↦ w.kind-is ∙ sym (ap kind_of (eq-eqb _ _ w.if-count_ink-ink.true))
+      | else-count_ink-ink w ↦ w.kind-is ∙ sym (ap kind_of (ne_eqb _ _ w.if-count_ink-ink.false))
+    ] in
     moves_as (S s) c.args.cpe.now c.args.indices.now (length c.args.cpe.now) c.args.q c.requires.one_pixel.0 c.requires.ready _ _ _ c.walk_copy-p.ensures
-    c.args.w c.requires.one_pixel.1 c.index_at-k.result c.count_ink-ink.result c.count_ink.result c.told.result
+    c.args.w c.requires.one_pixel.1 c.index_at-k.result c.count_ink-ink.result c.count_ink.result _
     (c.index_at-k.ensures ∙ ap (λ (I : Rect). index_at I c.args.indices.now c.args.q.x0 c.args.q.y0) c.image_rect.ensures)
     (c.count_ink-ink.ensures ∙ ap (count_of c.index_at-k.result) c.fill_copy.ensures.copy_indices_after)
     c.count_ink.ensures
-    c.told.ensures
+    (ap (λ (k : Kind). Some (first_move pixel k c.walk_copy-p.result.delta)) kind)
     c.if-p-eq0.false

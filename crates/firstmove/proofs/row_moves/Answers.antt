@@ -1,7 +1,7 @@
 -- `firstmove::row_moves` meets its contract: the copy has room, and the walk over it says whether it accepts a move. Assumes nothing.
 use Prim.Native.Nat.{◌-◌, ◌*◌, ◌≤◌}
 use native.Mathlib.Omega.{arith}
-use mathlib.Core.Path.{sym, ap}
+use mathlib.Core.Path.{refl, sym, ap}
 use mathlib.Core.Bool.{not}
 use lib.Dec.{eqb}
 use Rattle.base.specs.declared.Rect.{Rect}
@@ -12,7 +12,7 @@ use Rattle.firstmove.proofs.row_moves.Goals.{After-around-w}
 use Rattle.firstmove.proofs.row_moves.Goals as goal
 
 abbrev T : After-around-w → Tiling
-T c = c.args.g.tiling
+T c = c.args.s.tiling
 
 abbrev Q : After-around-w → Rect
 Q c = c.args.q
@@ -21,7 +21,10 @@ most : (c : After-around-w) → (c.around-w.result.y1 - c.around-w.result.y0) * 
 most c = room (T c) (Q c) c.requires.row c.around-w.result c.around-w.ensures
 
 pub around-w-requires : goal.around-w-requires
-around-w-requires c = c.requires.row.part
+around-w-requires c =
+    let p = c.requires.row.part in
+    let l = c.requires.ready.limits in
+    (omega (arith, p.in_x, l.width_limit), omega (arith, p.in_y, l.height_limit))
 
 pub overflow_sub-n : goal.overflow_sub-n
 overflow_sub-n c = (order (T (goal.at.overflow_sub-n c).After-around-w) (Q (goal.at.overflow_sub-n c).After-around-w) c.requires.row c.around-w.result c.around-w.ensures).1
@@ -32,14 +35,20 @@ overflow_sub-n-2 c = let a = (goal.at.overflow_sub-n-2 c).After-around-w in (ord
 pub overflow_mul-n : goal.overflow_mul-n
 overflow_mul-n c = omega (arith, most (goal.at.overflow_mul-n c).After-around-w)
 
-pub overflow_mul-values : goal.overflow_mul-values
-overflow_mul-values c = omega (arith, most (goal.at.overflow_mul-values c).After-around-w)
+pub overflow_mul-n-2 : goal.overflow_mul-n-2
+overflow_mul-n-2 c = omega (arith, most (goal.at.overflow_mul-n-2 c).After-around-w)
 
 pub slice_bounds-walk_copy-end : goal.slice_bounds-walk_copy-end
 slice_bounds-walk_copy-end c = omega (arith, most (goal.at.slice_bounds-walk_copy-end c).After-around-w, c.requires.copy_cpe_len.0)
 
 pub slice_bounds-walk_copy-end-2 : goal.slice_bounds-walk_copy-end-2
-slice_bounds-walk_copy-end-2 c = omega (arith, most (goal.at.slice_bounds-walk_copy-end-2 c).After-around-w, c.requires.copy_cpe_len.1)
+slice_bounds-walk_copy-end-2 c = sym (taken _ _ _ 621 c.requires.copy_cpe_len.0 (omega (arith, most (goal.at.slice_bounds-walk_copy-end-2 c).After-around-w)) refl)
+
+pub slice_bounds-walk_copy-end-3 : goal.slice_bounds-walk_copy-end-3
+slice_bounds-walk_copy-end-3 c = omega (arith, most (goal.at.slice_bounds-walk_copy-end-3 c).After-around-w, c.requires.copy_cpe_len.1)
+
+pub slice_bounds-walk_copy-end-4 : goal.slice_bounds-walk_copy-end-4
+slice_bounds-walk_copy-end-4 c = sym (taken _ _ _ 207 c.requires.copy_cpe_len.1 (most (goal.at.slice_bounds-walk_copy-end-4 c).After-around-w) refl)
 
 pub walk_copy-p-requires : goal.walk_copy-p-requires
 walk_copy-p-requires c =

@@ -6,7 +6,7 @@ use Rattle.firstmove.proofs.walk_copy.Goals.{Start}
 use Rattle.firstmove.proofs.walk_copy.Goals as goal
 
 abbrev S : Start → Shared
-S s = shared_of s.args.g s.args.pinned.now s.args.inks.now s.args.cpp.now
+S s = shared_of s.args.s
 
 pub fill_copy-requires : goal.fill_copy-requires
 fill_copy-requires c =

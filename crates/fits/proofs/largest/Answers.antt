@@ -3,13 +3,13 @@ use native.Mathlib.Omega.{arith}
 use Rattle.fits.proofs.LargestLaws.{one_more, none_left}
 use Rattle.fits.proofs.largest.Goals as goal
 
-pub loop-i-init : goal.loop-i-init
-loop-i-init c = (omega arith, omega arith)
+pub loop-b-init : goal.loop-b-init
+loop-b-init c = omega arith
 
-pub loop-i-preserved : goal.loop-i-preserved
-loop-i-preserved c =
-    let more = one_more c.args.bytes.now c.loop-i.i c.loop-i.most (omega arith) in
-    (omega arith, rw (c.larger-most.ensures, ← more) c.loop-i.invariant.1)
+pub loop-b-preserved : goal.loop-b-preserved
+loop-b-preserved c =
+    let more = one_more c.args.bytes.now c.loop-b.b-index c.loop-b.most (omega arith) in
+    rw (c.max-most.ensures, ← more) c.loop-b.invariant
 
 pub returns : goal.returns
-returns c = omega (arith, none_left c.args.bytes.now c.loop-i.i (omega arith))
+returns c = omega (arith, none_left c.args.bytes.now c.loop-b.b-index (omega arith))

@@ -7,4 +7,4 @@ use Rattle.fits.proofs.largest_by_quarters.Goals as goal
 pub returns : goal.returns
 returns c =
     let bytes = c.args.bytes.now in
-    rw (c.larger.ensures, c.largest.ensures, c.largest_of_four-quarters.ensures) (by_quarters (length bytes / 4) bytes)
+    rw (c.max.ensures, c.largest.ensures, c.largest_of_four-quarters.ensures) (by_quarters (length bytes / 4) bytes)

@@ -10,7 +10,7 @@ pub loop-i-preserved : goal.loop-i-preserved
 loop-i-preserved c =
     let l = c.loop-i in
     let more = one_more_of_four c.args.a.now c.args.b.now c.args.c.now c.args.d.now l.i l.most (omega arith) (omega (arith, c.requires.0)) (omega (arith, c.requires.1)) (omega (arith, c.requires.2)) in
-    (omega arith, rw (c.larger-most.ensures, c.largest_of.ensures, ← more) l.invariant.1)
+    (omega arith, rw (c.max-most.ensures, c.largest_of.ensures, ← more) l.invariant.1)
 
 pub returns : goal.returns
 returns c =

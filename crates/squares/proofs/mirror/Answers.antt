@@ -1,27 +1,8 @@
--- `mirror` meets its contract: after each turn the list is filled up to i. Assumes nothing.
-use mathlib.Core.Path.{refl}
-use Prim.Native.Nat.{◌<◌}
-use native.Mathlib.Omega.{arith}
-use lib.ListN.{length, length-set}
-use lib.Ieee.{nan}
-use Rattle.base.proofs.TableLaws.{fill_none, fill_turn, fill_done}
-use Rattle.squares.specs.Squares.{mirrored}
+-- `mirror` meets its contract: the list's first values, copied and then reversed. Assumes nothing.
+use mathlib.Core.Path.{ap, ◌∙◌}
+use Rattle.std.proofs.Common.{reverse}
+use Rattle.squares.proofs.SquareLaws.{reversed}
 use Rattle.squares.proofs.mirror.Goals as goal
 
-pub loop-i-init : goal.loop-i-init
-loop-i-init c = (omega arith, refl, refl, refl, fill_none _ _)
-
-pub loop-i-preserved : goal.loop-i-preserved
-unfolding mirrored
-loop-i-preserved c =
-    let h = c.loop-i.invariant in
-    let room : c.loop-i.i < length c.args.out.now = omega (arith, c.loop-i-test.true, h.1) in
-    (omega (arith, room), refl, refl, simp length-set h.3, fill_turn nan _ _ _ _ _ room h.4 refl)
-
-pub shape_of-out : goal.shape_of-out
-shape_of-out c = c.loop-i.invariant.3
-
 pub returns : goal.returns
-returns c =
-    let h = c.loop-i.invariant in
-    fill_done c.loop-i.i (length c.args.out.now) _ _ _ (omega (arith, h.0, h.1)) (omega (arith, c.loop-i-test.false, h.1)) refl h.4
+returns c = c.reverse.ensures.after ∙ ap reverse c.copy_from_slice.ensures.after ∙ reversed _ _ c.requires

@@ -1,10 +1,8 @@
 -- What the loop of `square_lines` keeps.
 use mathlib.Core.Path.{◌≡◌}
-use Prim.Native.Nat.{◌≤◌}
-use lib.ListN.{length}
 use Rattle.base.proofs.TableLaws.{filled}
 use Rattle.squares.specs.Squares.{line_squares}
 use Rattle.squares.proofs.square_lines.Given as goal
 
 abbrev pub invariant-loop-i : goal.invariant-loop-i
-invariant-loop-i l = (l.i ≤ l.i-end) × (l.i-end ≡ length l.initial.sums) × (length l.sums ≡ length l.initial.sums) × (l.sums ≡ filled l.i (line_squares l.out l.n l.initial.sums) l.initial.sums)
+invariant-loop-i l = l.sums ≡ filled l.i (line_squares l.out l.n l.initial.sums) l.initial.sums

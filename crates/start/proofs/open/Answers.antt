@@ -1,36 +1,32 @@
 -- `open` meets its contract: a refusal keeps all, and a valid open prepares the walk and starts the job. Assumes nothing.
-use mathlib.Core.Path.{ap₂, ◌∙◌}
-use Rattle.input.specs.Input.{input}
-use Rattle.job.specs.Open.{Opening, opening, opened}
-use Rattle.job.proofs.Answers.{open_answers}
-use Rattle.start.proofs.Laws.{verdict, ready, opens_as}
-use Rattle.start.proofs.open.Goals.{After-check_open-status}
+use Rattle.std.proofs.Common.{◌≡◌, length, replicate, rules}
+use Rattle.std.proofs.lemmas.Result.{err_from_is_err_and}
+use Rattle.base.specs.F64.{f0}
+use Rattle.input.specs.Inputs.{input_of}
+use Rattle.job.specs.Open.{Opening, opening, open_tests_of}
+use Rattle.start.proofs.Laws.{refused_is, ready, opens_as}
+use Rattle.start.proofs.open.Goals.{Start}
 use Rattle.start.proofs.open.Goals as goal
 
 -- what the open is given
-abbrev O : After-check_open-status → Opening
-O c =
-    let a = c.args in
-    opening (input a.width a.height a.pixels.now a.palette.now a.indices.now a.pinned.now a.params)
+abbrev O : Start → Opening
+O s =
+    let a = s.args in
+    opening (input_of a.given)
     a.max_passes a.cpe.now a.cpp.now a.accepted_per_pass.now a.tile_states.now a.deltas.now a.inks.now
 
-pub returns-then-status-ne0 : goal.returns-then-status-ne0
-returns-then-status-ne0 c =
-    let at = (goal.at.returns-then-status-ne0 c).After-check_open-status in
-    let found = c.check_sizes-s in
-    let o = O at in
-    ap₂ (λ s r. opened s r o.cpe o.cpp o.states o.deltas o.inks) c.refused.ensures.0 c.refused.ensures.1
-    ∙ (open_answers o).kept _ (verdict o found.result found.ensures c.check_open-status.result c.check_open-status.ensures) c.if-status-ne0.true
+pub returns-in_err-tiling : goal.returns-in_err-tiling
+unfolding open_tests_of
+returns-in_err-tiling c =
+    let p = err_from_is_err_and c.from_residual.result c.from_residual.ensures.1 in
+    rw (p.1, p.2) (refused_is (O (goal.at.returns-in_err-tiling c).Start) _ c.in_err-tiling.ensures)
 
 pub prepare-error-requires : goal.prepare-error-requires
-prepare-error-requires c =
-    let at = (goal.at.prepare-error-requires c).After-check_open-status in
-    let found = c.check_sizes-s in
-    ready (O at) found.result found.ensures c.check_open-status.result c.check_open-status.ensures c.if-status-ne0.false
+unfolding open_tests_of
+prepare-error-requires c = ready (O (goal.at.prepare-error-requires c).Start) _ c.in_ok-tiling.ensures.0 c.in_ok-tiling.ensures.1
 
 pub returns : goal.returns
+unfolding open_tests_of
 returns c =
-    let at = (goal.at.returns c).After-check_open-status in
-    let found = c.check_sizes-s in
-    opens_as (O at) found.result found.ensures c.check_open-status.result c.check_open-status.ensures c.if-status-ne0.false _ _ _ _ _ _
-    c.prepare-error.ensures c.clear.ensures c.clear_deltas.ensures
+    let zeros : c.fill.new.self ≡ replicate (length c.args.deltas.now) f0 = search rules in
+    opens_as (O (goal.at.returns c).Start) _ c.in_ok-tiling.ensures.0 c.in_ok-tiling.ensures.1 _ _ _ _ _ _ c.prepare-error.ensures c.clear.ensures zeros

@@ -1,5 +1,4 @@
 -- `tile::refine_row` meets its contract: between two pixels the slices are the definition's state (`Turns`). Assumes nothing.
-use mathlib.Core.Path.{sym, ◌∙◌}
 use native.Mathlib.Omega.{arith}
 use lib.ListN.{length}
 use Rattle.base.specs.Grid.{Inside}
@@ -25,24 +24,18 @@ visit-n-requires c =
     let a = c.args in
     let w = c.loop-x.invariant.walked in
     let k = c.requires.covers in
-    record { ready = ready_again c.loop-x.cpe c.requires.ready w.sound; held = covers_held a.g.tiling a.tab.w a.q c.loop-x.x a.y k (inside at); tab_value = c.requires.tab_value; accepted_bound = omega (arith, w.count, c.requires.y0_le_y.2, k.in_x, c.requires.ready.limits.width_limit, c.loop-x-test.true) }
+    record { ready = ready_again c.loop-x.cpe c.requires.ready w.sound; held = covers_held a.s.tiling a.tab.w a.q c.loop-x.x a.y k (inside at); tab_value = c.requires.tab_value; accepted_bound = omega (arith, w.count, c.requires.y0_le_y.2, k.in_x, c.requires.ready.limits.width_limit, c.loop-x-test.true) }
 
 pub loop-x-preserved : goal.loop-x-preserved
 loop-x-preserved c =
     let at = (goal.at.loop-x-preserved c).In-loop-x in
     let l = c.loop-x in
     let a = c.args in
-    let S : Shared = shared_of a.g a.pinned.now a.inks.now a.cpp.now in
+    let S : Shared = shared_of a.s in
     let now : State = state l.cpe l.indices l.n in
-    let held = covers_held a.g.tiling a.tab.w a.q l.x a.y c.requires.covers (inside at) in
+    let held = covers_held a.s.tiling a.tab.w a.q l.x a.y c.requires.covers (inside at) in
     turns_more 1 (λ x. visit_of S a.tab.w x a.y) a.q.x0 a.q.x1 c.visit-n.new.cpe _ _ l.invariant c.loop-x-test.true c.visit-n.ensures
     (visit_sound S a.tab.w a.indices.now (length a.cpe.now) l.x a.y now held l.invariant.walked.sound) (visit_most S a.tab.w l.x a.y now)
-
-pub shape_of-cpe : goal.shape_of-cpe
-shape_of-cpe c = c.loop-x.invariant.walked.sound.cpe
-
-pub shape_of-indices : goal.shape_of-indices
-shape_of-indices c = c.loop-x.invariant.walked.sound.room ∙ sym c.requires.ready.indices_room
 
 pub returns : goal.returns
 unfolding refine_row

@@ -1,5 +1,4 @@
 -- `tile::refine_rows` meets its contract: between two rows the slices are the definition's state (`Turns`). Assumes nothing.
-use mathlib.Core.Path.{sym, ◌∙◌}
 use native.Mathlib.Omega.{arith}
 use lib.ListN.{length}
 use Rattle.base.specs.Limits.{max_side}
@@ -24,17 +23,11 @@ pub loop-y-preserved : goal.loop-y-preserved
 loop-y-preserved c =
     let l = c.loop-y in
     let a = c.args in
-    let S : Shared = shared_of a.g a.pinned.now a.inks.now a.cpp.now in
+    let S : Shared = shared_of a.s in
     let now : State = state l.cpe l.indices l.n in
     turns_more max_side (refine_row S a.tab.w a.q) a.q.y0 a.q.y1 c.refine_row-n.new.cpe _ _ l.invariant c.loop-y-test.true c.refine_row-n.ensures
     (row_sound S a.tab.w a.q a.indices.now (length a.cpe.now) l.y now c.requires.covers l.invariant.low c.loop-y-test.true l.invariant.walked.sound)
     (omega (arith, row_most S a.tab.w a.q l.y now, c.requires.covers.in_x, c.requires.ready.limits.width_limit))
-
-pub shape_of-cpe : goal.shape_of-cpe
-shape_of-cpe c = c.loop-y.invariant.walked.sound.cpe
-
-pub shape_of-indices : goal.shape_of-indices
-shape_of-indices c = c.loop-y.invariant.walked.sound.room ∙ sym c.requires.ready.indices_room
 
 pub returns : goal.returns
 unfolding refine_tile

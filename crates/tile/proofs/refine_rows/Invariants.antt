@@ -1,5 +1,4 @@
 -- What the loop of `refine_rows` keeps.
-use Prim.Native.Nat.{◌-◌}
 use Rattle.base.specs.Limits.{max_side}
 use Rattle.search.specs.Shared.{shared_of}
 use Rattle.tile.specs.Tile.{refine_row}
@@ -8,8 +7,5 @@ use Rattle.tile.proofs.refine_rows.Given as goal
 
 abbrev pub invariant-loop-y : goal.invariant-loop-y
 invariant-loop-y l =
-    let S = shared_of l.g l.pinned l.inks l.cpp in
-    Turns S l.tab.w max_side (refine_row S l.tab.w l.q) l.initial.cpe l.initial.indices l.initial.n l.initial.y l.end l.y l.cpe l.indices l.n
-
-abbrev pub decreases-loop-y : goal.decreases-loop-y
-decreases-loop-y l = l.end - l.y
+    let S = shared_of l.s in
+    Turns S l.tab.w max_side (refine_row S l.tab.w l.q) l.initial.cpe l.initial.indices l.initial.n l.q.y0 l.q.y1 l.y l.cpe l.indices l.n

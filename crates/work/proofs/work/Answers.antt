@@ -1,8 +1,9 @@
 -- `work` meets its contract: a refusal keeps all, and a valid work refines the tile on its copy. Assumes nothing.
 use native.Mathlib.Omega.{arith}
-use mathlib.Core.Path.{◌≡◌}
-use Rattle.base.specs.declared.Status.{Status}
-use Rattle.base.specs.Refusal.{judge}
+use mathlib.Core.Path.{◌≡◌, refl}
+use Rattle.std.proofs.lemmas.Result.{err_from_is_err_and}
+use Rattle.base.specs.Refusal.{judge, accepted}
+use Rattle.base.proofs.JudgeLaws.{refusal_ne}
 use Rattle.tiling.proofs.TilingLaws.{region_within}
 use Rattle.job.specs.Record.{pixels_of, job_shared}
 use Rattle.job.specs.Copy.{Pixels, pixels, refined_copy}
@@ -18,31 +19,32 @@ use Rattle.work.proofs.work.Goals as goal
 abbrev copies : Start → Pixels
 copies s = pixels s.args.copy_cpe.now s.args.copy_indices.now
 
-valid : (s : Start) {u : Status} → u ≡ judge (work_tests s.args.r s.args.tile s.args.pinned.now s.args.cpp.now (copies s) s.args.inks.now) → u.number ≡ 0 →
+valid : (s : Start) → accepted ≡ judge (work_tests s.args.r s.args.tile s.args.pinned.now s.args.cpp.now (copies s) s.args.inks.now) →
     ValidWork s.args.r s.args.tile s.args.pinned.now s.args.cpp.now (copies s) s.args.inks.now
-valid s e z = (work_passes _ _ _ _ _ _).0 ((work_answers s.args.r s.args.tile s.args.pinned.now s.args.cpp.now (copies s) s.args.inks.now).passed _ e z)
+valid s e = (work_passes _ _ _ _ _ _).0 ((work_answers s.args.r s.args.tile s.args.pinned.now s.args.cpp.now (copies s) s.args.inks.now).passed accepted e refl)
 
-pub returns-then-status-ne0 : goal.returns-then-status-ne0
-returns-then-status-ne0 c =
-    let s = (goal.at.returns-then-status-ne0 c).Start in
-    rw c.refused.ensures ((work_answers c.args.r c.args.tile c.args.pinned.now c.args.cpp.now (copies s) c.args.inks.now).kept _ c.check_work-status.ensures c.if-status-ne0.true)
+pub returns-in_err-check_work : goal.returns-in_err-check_work
+returns-in_err-check_work c =
+    let s = (goal.at.returns-in_err-check_work c).Start in
+    let p = err_from_is_err_and c.from_residual.result c.from_residual.ensures.1 in
+    rw (p.1, p.2) ((work_answers c.args.r c.args.tile c.args.pinned.now c.args.cpp.now (copies s) c.args.inks.now).kept _ c.in_err-check_work.ensures (refusal_ne _))
 
 pub region_rect-region-requires : goal.region_rect-region-requires
 region_rect-region-requires c =
     let start = (goal.at.region_rect-region-requires c).Start in
-    let v = valid start c.check_work-status.ensures c.if-status-ne0.false in record { limits = limits_of c.args.r v.valid; tile_bound = v.tile_has }
+    let v = valid start c.in_ok-check_work.ensures in record { limits = limits_of c.args.r v.valid; tile_bound = v.tile_has }
 
 pub tile_rect-rect-requires : goal.tile_rect-rect-requires
 tile_rect-rect-requires c =
     let start = (goal.at.tile_rect-rect-requires c).Start in
-    let v = valid start c.check_work-status.ensures c.if-status-ne0.false in record { limits = limits_of c.args.r v.valid; tile_bound = v.tile_has }
+    let v = valid start c.in_ok-check_work.ensures in record { limits = limits_of c.args.r v.valid; tile_bound = v.tile_has }
 
-pub refine_tile-made-requires : goal.refine_tile-made-requires
+pub refine_tile-requires : goal.refine_tile-requires
 unfolding pixels_of
-refine_tile-made-requires c =
-    let s = (goal.at.refine_tile-made-requires c).Start in
+refine_tile-requires c =
+    let s = (goal.at.refine_tile-requires c).Start in
     let T = c.args.r.plan.tiling in
-    let v = valid s c.check_work-status.ensures c.if-status-ne0.false in
+    let v = valid s c.in_ok-check_work.ensures in
     record {
       ready = rw c.region_rect-region.ensures (record {
         limits = limits_of c.args.r v.valid;
@@ -65,5 +67,5 @@ unfolding refined_copy job_shared
 returns c =
     let s = (goal.at.returns c).Start in
     let a = c.args in
-    rw (c.refine_tile-made.ensures, c.region_rect-region.ensures, c.tile_rect-rect.ensures)
-    ((work_answers a.r a.tile a.pinned.now a.cpp.now (copies s) a.inks.now).made _ c.check_work-status.ensures c.if-status-ne0.false)
+    rw (c.refine_tile.ensures, c.region_rect-region.ensures, c.tile_rect-rect.ensures)
+    ((work_answers a.r a.tile a.pinned.now a.cpp.now (copies s) a.inks.now).made accepted c.in_ok-check_work.ensures refl)

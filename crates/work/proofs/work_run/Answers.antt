@@ -1,22 +1,15 @@
 -- `work_run` meets its contract: once the run has passed it is the call on the record, and its run is only read. Assumes nothing.
-use Rattle.base.specs.Refusal.{status}
-use Rattle.progress.specs.Progress.{progress_of}
-use Rattle.tile.specs.Tile.{state}
-use Rattle.job.specs.Work.{worked}
+use Rattle.std.proofs.lemmas.Result.{err_from_is_err_and}
 use Rattle.job.specs.Boundary.{work_run}
 use Rattle.words.proofs.RunLaws.{unread, read}
 use Rattle.work.proofs.work_run.Goals as goal
 
--- ---- the places that the proofs read: the call made, the run read, and the start
-
-pub returns-then-status-ne0 : goal.returns-then-status-ne0
+pub returns-in_err-r : goal.returns-in_err-r
 unfolding work_run
-returns-then-status-ne0 c = rw c.refused.ensures (unread c.args.«record».now c.read-run.ensures.status_value _ _ c.if-status-ne0.true)
+returns-in_err-r c =
+    let p = err_from_is_err_and c.from_residual.result c.from_residual.ensures.1 in
+    rw (p.1, p.2) (unread c.args.«record».now _ _ _ c.in_err-r.ensures.tested)
 
 pub returns : goal.returns
 unfolding work_run
-returns c =
-    let ok = c.read-run.ensures.words_len c.if-status-ne0.false in
-    let w = c.work.result in
-    read c.args.«record».now c.read-run.ensures.status_value _ _ c.if-status-ne0.false ok.1 {a = worked (status w.number w.place) (state c.work.new.copy_cpe c.work.new.copy_indices (progress_of w.accepted w.delta))}
-    c.work.ensures
+returns c = let ok = c.in_ok-r.ensures.tested in read c.args.«record».now _ _ ok.0 ok.1 c.work.ensures

@@ -1,34 +1,63 @@
 -- `check_work` meets its contract: it makes the tests one after the other, and each part finds what it needs where those before it have passed. Assumes nothing.
-use Prim.Native.Nat.{◌<◌}
-use mathlib.Core.Path.{◌≡◌}
+use mathlib.Core.Path.{refl, sym}
 use mathlib.Core.List.{[], ◌∷◌}
 use native.Mathlib.Omega.{arith}
-use Rattle.base.proofs.RefusalLaws.{Numbered}
 use borrow.Author.Tests.{not-false, ltb-true}
+use Rattle.std.proofs.lemmas.Result.{err_from_is_err_and}
 use Rattle.base.specs.Refusal.{Passes}
-use Rattle.tiling.specs.Tiling.{tiles}
-use Rattle.job.specs.Valid.{ValidRecord}
-use Rattle.job.specs.Work.{copy_test, work_tests}
-use Rattle.records.proofs.RecordLaws.{limits_of, valid_record, after_record, passed}
-use Rattle.worktests.proofs.check_work.Goals.{After-check_lent-s2}
+use Rattle.base.proofs.JudgeLaws.{ends_at, follows, passed_by, refused_by}
+use Rattle.base.proofs.RefusalLaws.{Numbered, passes_of}
+use Rattle.job.specs.Work.{work_tests}
+use Rattle.records.proofs.RecordLaws.{limits_of, valid_of, record_refuses, after_record}
 use Rattle.worktests.proofs.check_work.Goals as goal
 
-lent : (c : After-check_lent-s2) → c.check_lent-s2.result.number ≡ 0 → let a = c.args in ValidRecord a.r × (a.tile < tiles a.r.plan.tiling)
+pub returns-in_err-check_record : goal.returns-in_err-check_record
+unfolding work_tests
+returns-in_err-check_record c =
+    let p = err_from_is_err_and c.from_residual.result c.from_residual.ensures.1 in
+    rw (p.1, p.2) (record_refuses c.args.r _ _ c.in_err-check_record.ensures)
+
+pub check_lent-requires : goal.check_lent-requires
+check_lent-requires c = valid_of _ c.in_ok-check_record.ensures
+
+pub returns-in_err-check_lent : goal.returns-in_err-check_lent
+unfolding work_tests Numbered
+returns-in_err-check_lent c =
+    let p = err_from_is_err_and c.from_residual-in_err-check_lent.result c.from_residual-in_err-check_lent.ensures.1 in
+    rw (p.1, p.2) (after_record c.args.r _ c.in_ok-check_record.ensures (ends_at _ (_ ∷ _ ∷ _ ∷ _ ∷ []) _ (omega arith) c.in_err-check_lent.ensures))
+
+pub check_copy-requires : goal.check_copy-requires
 unfolding Numbered Passes
-lent c z =
-    let p = passed _ (_ ∷ _ ∷ _ ∷ _ ∷ []) (omega arith) c.check_lent-s2.ensures z in
-    (valid_record _ c.check_record-s1.ensures p.0, ltb-true _ _ (not-false _ p.1.0))
+check_copy-requires c =
+    let lent = passes_of (_ ∷ _ ∷ _ ∷ _ ∷ []) (omega arith) (sym c.in_ok-check_lent.ensures) in
+    (limits_of _ (valid_of _ c.in_ok-check_record.ensures), ltb-true _ _ (not-false _ lent.0))
 
-pub check_lent-s2-requires : goal.check_lent-s2-requires
-check_lent-s2-requires c = λ z. valid_record _ c.check_record-s1.ensures z
+pub returns-in_err-check_copy : goal.returns-in_err-check_copy
+unfolding work_tests Numbered
+returns-in_err-check_copy c =
+    let p = err_from_is_err_and c.from_residual-in_err-check_copy.result c.from_residual-in_err-check_copy.ensures.1 in
+    rw (p.1, p.2)
+    (after_record c.args.r _ c.in_ok-check_record.ensures
+    (follows (_ ∷ _ ∷ _ ∷ _ ∷ []) _ (omega arith) c.in_ok-check_lent.ensures
+    (ends_at _ (_ ∷ _ ∷ []) _ (omega arith) c.in_err-check_copy.ensures)))
 
-pub check_copy-s3-requires : goal.check_copy-s3-requires
-check_copy-s3-requires c = λ z. let p = lent (goal.at.check_copy-s3-requires c).After-check_lent-s2 z in (limits_of _ p.0, p.1)
+pub overflow_mul-plan : goal.overflow_mul-plan
+overflow_mul-plan c = omega (arith, (valid_of _ c.in_ok-check_record.ensures).inks_most)
 
-pub check_inks-requires : goal.check_inks-requires
-unfolding Numbered
-check_inks-requires c = λ z. (lent (goal.at.check_inks-requires c).After-check_lent-s2 (passed _ (_ ∷ _ ∷ []) (omega arith) c.check_copy-s3.ensures z).0).0
+pub returns-in_err-check_length : goal.returns-in_err-check_length
+unfolding work_tests Numbered
+returns-in_err-check_length c =
+    let p = err_from_is_err_and c.from_residual-in_err-check_length.result c.from_residual-in_err-check_length.ensures.1 in
+    rw (p.1, p.2)
+    (after_record c.args.r _ c.in_ok-check_record.ensures
+    (follows (_ ∷ _ ∷ _ ∷ _ ∷ []) _ (omega arith) c.in_ok-check_lent.ensures
+    (follows (_ ∷ _ ∷ []) _ (omega arith) c.in_ok-check_copy.ensures
+    (refused_by _ _ _ c.in_err-check_length.ensures.fails refl))))
 
 pub returns : goal.returns
-unfolding work_tests copy_test Numbered
-returns c = after_record _ _ (omega arith) (rw (c.check_inks.ensures, c.check_copy-s3.ensures, c.check_lent-s2.ensures, c.check_record-s1.ensures))
+unfolding work_tests Numbered
+returns c =
+    after_record c.args.r _ c.in_ok-check_record.ensures
+    (follows (_ ∷ _ ∷ _ ∷ _ ∷ []) _ (omega arith) c.in_ok-check_lent.ensures
+    (follows (_ ∷ _ ∷ []) _ (omega arith) c.in_ok-check_copy.ensures
+    (passed_by _ _ c.in_ok-check_length.ensures.passes c.check_named.ensures)))

@@ -1,0 +1,11 @@
+-- The scene that the code has, as Error speaks of it.
+use Rattle.std.specs.Prelude.{[]}
+use Rattle.error.specs.declared.Scene as code
+use Rattle.error.specs.Error.{Scene, scene}
+
+abbrev pub image_of : code.Scene → Scene
+image_of s = scene s.pixels.now s.indices.now s.pinned.now s.inks.now
+
+-- nothing pinned
+abbrev pub unpinned_of : code.Scene → Scene
+unpinned_of s = scene s.pixels.now s.indices.now [] s.inks.now

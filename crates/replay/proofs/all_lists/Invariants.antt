@@ -1,6 +1,0 @@
--- `all_lists` ends: each list ends past where it begins.
-use Rattle.std.proofs.Common.{length, ◌-◌}
-use Rattle.replay.proofs.all_lists.Given as goal
-
-abbrev pub decreases-loop-at : goal.decreases-loop-at
-decreases-loop-at g l = length l.text - l.at

@@ -1,8 +1,0 @@
--- `tiling::image_rect` meets its contract: the definition's four numbers.
-use mathlib.Core.Path.{refl}
-use Rattle.tiling.specs.Tiling.{image}
-use Rattle.tiling.proofs.image_rect.Goals as goal
-
-pub returns : goal.returns
-unfolding image
-returns c = refl
