@@ -1,11 +1,14 @@
 -- What refining an accepted input leaves: the answer and every lent slice.
-use Rattle.std.specs.Prelude.{List, ℕ, ◌*◌, length, Float}
+use Rattle.std.specs.Prelude.{Result, Ok, Err, List, ℕ, ◌*◌, length, Float}
 use Rattle.base.specs.declared.Status.{Status}
+use Rattle.base.specs.declared.Refusal.{Refusal}
+use Rattle.base.specs.Answer.{number_and_place}
 use Rattle.base.specs.F64.{f0}
 use Rattle.base.specs.Loop.{overwrite}
 use Rattle.input.specs.Input.{Input}
 use Rattle.walk.specs.Walk.{Walk}
 use Rattle.prepare.specs.Prepare.{inks_of, cpp_of, error_of, run_one}
+use Rattle.accepted.specs.declared.Stats.{Stats}
 use Rattle.accepted.specs.declared.DbsStats.{DbsStats}
 
 pub record Refinement : Type 0 where
@@ -22,6 +25,15 @@ refinement stats indices cpe cpp counts inks = record { stats = stats; indices =
 -- 'A refusal changes no buffer ..; passes, counts, errors .. are then zeros'
 abbrev pub refused_stats : Status → DbsStats
 refused_stats s = record { number = s.number; place = s.place; passes = 0; initial_error = f0; final_error = f0 }
+
+-- 'success is 0, 0'
+abbrev pub stats_as : Stats → DbsStats
+stats_as s = record { number = 0; place = 0; passes = s.passes; initial_error = s.initial_error; final_error = s.final_error }
+
+-- what a call answers
+abbrev pub answer_of : Result Stats Refusal → DbsStats
+answer_of (Ok s) = stats_as s
+answer_of (Err r) = refused_stats (number_and_place r)
 
 -- 'Result: passes, initial error and final error', of a walk at its end
 abbrev pub stats_of : Float → Walk → DbsStats

@@ -2,10 +2,9 @@
 #![tactic(auto)]
 
 ghost use Rattle.std.specs.Prelude.{◌≡◌, length};
-ghost use Rattle.base.specs.Answer.{number_and_place};
 ghost use Rattle.input.specs.Input.{input};
 ghost use Rattle.prepare.specs.Prepare.{ReadyToPrepare};
-ghost use Rattle.accepted.specs.Accepted.{refinement, refused_stats, refine_accepted};
+ghost use Rattle.accepted.specs.Accepted.{refinement, stats_as, answer_of, refine_accepted};
 
 use base::{Index, Refusal, Status};
 use eye::DbsParams;
@@ -13,32 +12,48 @@ use input::Input;
 use search::Setup;
 use tiling::Tiling;
 
-// Diagnostics of a run, or a refusal with zeros.
-// Kept: C reads number and place here, so that it is no `Result`.
-#[repr(C)]
+// Diagnostics of a run.
 #[derive(Clone, Copy)]
-pub struct DbsStats {
-    pub number: u64,
-    pub place: u64,
+pub struct Stats {
     // Passes run.
-    pub passes: u64,
+    pub passes: usize,
     // Perceived error of the starting halftone.
     pub initial_error: f64,
     // Perceived error of the refined halftone.
     pub final_error: f64,
 }
 
-impl From<Refusal> for DbsStats {
-    ghost from_gives = { λ r s. s ≡ refused_stats (number_and_place r) };
+// The same, or a refusal with zeros.
+// Kept: C reads number and place here, so that it is no `Result`.
+#[repr(C)]
+#[derive(Clone, Copy, Default)]
+pub struct DbsStats {
+    pub number: u64,
+    pub place: u64,
+    pub passes: u64,
+    pub initial_error: f64,
+    pub final_error: f64,
+}
 
-    fn from(refusal: Refusal) -> DbsStats {
-        let s = Status::from(refusal);
-        DbsStats {
-            number: s.number,
-            place: s.place,
-            passes: 0,
-            initial_error: 0.0,
-            final_error: 0.0,
+impl From<Result<Stats, Refusal>> for DbsStats {
+    ghost from_gives = { λ r s. s ≡ answer_of r };
+
+    fn from(run: Result<Stats, Refusal>) -> DbsStats {
+        match run {
+            Ok(stats) => DbsStats {
+                passes: stats.passes as u64,
+                initial_error: stats.initial_error,
+                final_error: stats.final_error,
+                ..DbsStats::default()
+            },
+            Err(refusal) => {
+                let Status { number, place } = Status::from(refusal);
+                DbsStats {
+                    number,
+                    place,
+                    ..DbsStats::default()
+                }
+            }
         }
     }
 }
@@ -55,9 +70,9 @@ pub fn refine_accepted(
     cpp: &mut [f64],
     accepted_per_pass: &mut [u32],
     inks: &mut [f64],
-) -> DbsStats
+) -> Stats
     requires { ReadyToPrepare (input t.width t.height pixels.now palette.now indices.old pinned.now params) t (length inks.old) (length cpp.old) (length cpe.old) }
-    ensures { refinement result indices.new cpe.new cpp.new accepted_per_pass.new inks.new ≡ refine_accepted (input t.width t.height pixels.now palette.now indices.old pinned.now params) (length accepted_per_pass.old) cpp.old accepted_per_pass.old }
+    ensures { refinement (stats_as result) indices.new cpe.new cpp.new accepted_per_pass.new inks.new ≡ refine_accepted (input t.width t.height pixels.now palette.now indices.old pinned.now params) (length accepted_per_pass.old) cpp.old accepted_per_pass.old }
 {
     let given = Input {
         width: t.width as u64,
@@ -71,16 +86,13 @@ pub fn refine_accepted(
     let error = prepare::prepare(given, t, inks, cpp, cpe);
     let setup = Setup {
         tiling: t,
-        count: palette.len() / 3,
         pinned,
         inks,
         cpp,
     };
     let end = walk::refine_passes(cpe, indices, setup, accepted_per_pass, error);
-    DbsStats {
-        number: 0,
-        place: 0,
-        passes: end.passes as u64,
+    Stats {
+        passes: end.passes,
         initial_error: error,
         final_error: end.error,
     }

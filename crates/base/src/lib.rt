@@ -9,6 +9,8 @@ ghost use Rattle.base.specs.Grid as grid;
 ghost use Rattle.base.specs.Limits.{max_side};
 ghost use Rattle.base.specs.Answer.{number_of, number_and_place, status_of};
 
+use std::fmt;
+
 // Inclusive-exclusive rectangle [x0, x1) x [y0, y1) in image coordinates.
 #[derive(Clone, Copy)]
 pub struct Rect {
@@ -65,6 +67,14 @@ pub const CPP_LEN: usize = 8450;
 pub struct Status {
     pub number: u64,
     pub place: u64,
+}
+
+// Its number and its place.
+impl fmt::Display for Status {
+    fn fmt<W: fmt::Write>(&self, f: &mut fmt::Formatter<W>) -> fmt::Result {
+        let Status { number, place } = *self;
+        write!(f, "{number} {place}")
+    }
 }
 
 // The buffers lent to a call whose lengths are tested, in the order of their numbers, from 1 on.

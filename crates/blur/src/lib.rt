@@ -2,9 +2,37 @@
 // by row.
 #![tactic(auto)]
 
-ghost use Rattle.std.specs.Prelude.{◌≡◌, ◌*◌, ◌≤◌, ◌<◌, length};
-ghost use Rattle.eye.specs.Eye.{Narrow, blur_radius};
+ghost use Rattle.std.specs.Prelude.{◌≡◌, ◌*◌, ◌≤◌, ◌<◌, length, fold};
+ghost use Rattle.base.specs.F64.{◌+f◌};
+ghost use Rattle.eye.specs.Eye.{blur_radius};
 ghost use Rattle.blur.specs.Blur.{kernel_side, values, gaussian_line, sum_of, blur_of, gaussian_blur};
+
+use eye::Width;
+
+// A blur: a square of values, row by row, or more values than that.
+#[derive(Clone, Copy)]
+pub struct Blur<'a> {
+    pub values: &'a [f64],
+    pub radius: usize,
+    pub ghost most: { radius ≤ 16 },
+    pub ghost room: { kernel_side radius * kernel_side radius ≤ length values.now },
+}
+
+// How many columns, and rows, a kernel of a radius has.
+pub fn kernel_side(radius: usize) -> usize
+    requires { radius ≤ 32 }
+    ensures { result ≡ kernel_side radius }
+{
+    2 * radius + 1
+}
+
+// How many values.
+pub fn value_count(radius: usize) -> usize
+    requires { radius ≤ 32 }
+    ensures { result ≡ values radius }
+{
+    kernel_side(radius) * kernel_side(radius)
+}
 
 // The Gaussian at the distances -r to r, not yet normalised.
 fn gaussian_line(sigma: f64, r: usize, g: &mut [f64])
@@ -17,24 +45,21 @@ fn gaussian_line(sigma: f64, r: usize, g: &mut [f64])
     }
 }
 
-// From 0.0, left to right.
-fn sum(g: &[f64]) -> f64
-    ensures { result ≡ sum_of g.now }
+// The values of a list, added to s from left to right.
+pub fn add_all(s: f64, list: &[f64]) -> f64
+    ensures { result ≡ fold (λ t x. t +f x) s list.now }
 {
-    let mut total = 0.0;
-    for x in g {
-        total += *x;
-    }
-    total
+    list.iter().fold(s, |t, x| t + *x)
 }
 
 // The products of a row's and a column's value of g, normalised to unit sum.
+#[tactic(auto, using(crate::proofs::SquareLaws::in_square))]
 fn blur_from(g: &[f64], p: &mut [f64])
     requires { (0 < length g.now) × (length g.now ≤ 33) × (length p.old ≡ length g.now * length g.now) }
     ensures { p.new ≡ blur_of g.now }
 {
     let size = g.len();
-    let sum = sum(g);
+    let sum = add_all(0.0, g);
     for (i, x) in p.iter_mut().enumerate() {
         *x = g[i / size] * g[i % size] / (sum * sum);
     }
@@ -49,13 +74,17 @@ fn blur_into(sigma: f64, r: usize, g: &mut [f64], p: &mut [f64])
     blur_from(g, p);
 }
 
-// Normalised (unit-sum) sampled Gaussian, truncated at its blur radius.
-pub fn gaussian_blur(sigma: f64, p: &mut [f64])
-    requires { Narrow sigma × (length p.old ≡ values (blur_radius sigma)) }
-    ensures { p.new ≡ gaussian_blur sigma }
+// Normalised (unit-sum) sampled Gaussian, truncated at its blur radius, in room for it or more.
+#[tactic(auto, unfolding(crate::specs::Blur::gaussian_blur))]
+pub fn gaussian_blur<'a>(width: Width, room: &'a mut [f64]) -> Blur<'a>
+    requires { values (blur_radius width.sigma) ≤ length room.old }
+    ensures values_are { result.values.now ≡ gaussian_blur width.sigma }
+    ensures radius_is { result.radius ≡ blur_radius width.sigma }
 {
-    let r = eye::blur_radius(sigma);
-    let size = 2 * r + 1;
-    let mut g = [0.0f64; 33];
-    blur_into(sigma, r, &mut g[..size], p);
+    let radius = width.radius();
+    let side = kernel_side(radius);
+    let mut line = [0.0f64; 33];
+    let values = &mut room[..value_count(radius)];
+    blur_into(width.sigma, radius, &mut line[..side], values);
+    Blur { values, radius }
 }

@@ -3,32 +3,30 @@
 use Prim.Native.Nat.{ℕ, zero, suc, ◌+◌, ◌-◌, ◌*◌, ◌<◌, ◌≤◌, max, min}
 use native.Mathlib.Omega.{arith}
 use mathlib.Core.Path.{◌≡◌, refl, sym, ap, ◌∙◌}
-use mathlib.Core.Logic.{◌⊎◌, inl, inr, ⊎_elim}
+use mathlib.Core.Logic.{⊎_elim}
 use mathlib.Core.Bool.{Bool, true, false, not, ◌&&◌}
 use mathlib.Core.List.{List}
-use lib.ListN.{length, get_or}
+use lib.ListN.{get_or}
 use lib.Ieee.{Float, nan}
 use borrow.Author.Tests.{lt-ltb, le-ltb, not-true}
 use Rattle.base.specs.declared.Rect.{Rect}
-use Rattle.base.specs.Loop.{up_to, from_to}
-use Rattle.base.specs.Grid.{area, place, Inside, Within, cell}
-use Rattle.base.specs.Limits.{max_pixels, max_radius, cpp_chroma, cpp_length}
+use Rattle.base.specs.Loop.{from_to}
+use Rattle.base.specs.Grid.{Inside, Within, cell}
 use Rattle.base.proofs.Bounds.{lt_or_ge}
 use Rattle.base.proofs.LoopLaws.{from_to_keeps, up_to_same}
 use Rattle.base.proofs.GridLaws.{ext_cell}
-use Rattle.color.specs.declared.YyCxCz.{YyCxCz}
 use Rattle.cpp.specs.declared.Kernel2D.{Kernel2D}
 use Rattle.spans.specs.declared.Channels.{Channels}
 use Rattle.spans.specs.declared.Channels.TheVariants.{Luminance, Chrominance}
 use Rattle.spans.specs.declared.Span.{Span}
 use Rattle.spans.specs.Add.{add_at}
-use Rattle.spans.specs.Spans.{span_of, pair_span, Fits}
+use Rattle.spans.specs.Spans.{span_of, pair_span}
 use Rattle.spans.proofs.Laws.{length-add_at}
 use Rattle.sweep.specs.declared.Source.{Source}
-use Rattle.sweep.specs.Sweep.{Centred, first, past, footprint_of, sweep_pixel, sweep_of}
+use Rattle.sweep.specs.Sweep.{first, past, footprint_of, sweep_pixel, sweep_of}
 use Rattle.sweep.specs.Part.{Part, RowSpan, pixel_of, row_of, part_of}
-use Rattle.sweep.proofs.Laws.{Axis, axis, whole_part, pixel_is, span_is}
-use Rattle.sweep.proofs.Point.{has, has_is, has_yes, has_not, no_true, on, on_idle, Sized, Acts, Rows, acts_then, rows_then, row_of_lem, rows_at, acts, there, sweep_at, sized_sweep, footprint_within}
+use Rattle.sweep.proofs.Laws.{axis, whole_part, pixel_is, span_is}
+use Rattle.sweep.proofs.Point.{has, has_is, has_yes, has_not, no_true, on, on_idle, Sized, Acts, Rows, acts_then, rows_then, row_of_lem, rows_at, acts, there, sweep_at, sized_sweep}
 use Rattle.std.specs.declared.ops.Range.{Range}
 use Rattle.both.specs.declared.Shared.{Shared}
 use Rattle.both.specs.declared.Rest.{Rest}
@@ -251,12 +249,12 @@ module _ (k : Kernel2D) (W : Rect) (m n : Source) (t : Twins W m n) where
 module _ (h : Channels) (cpp : List Float) (k : Kernel2D) (W : Rect) (m n : Source) (S : Shared) (y : ℕ) (p : Shares k W m n S) (s o one two : Span)
     (by_one : RowSpan k W m S.common y s) (by_two : RowSpan k W n S.common y o) (one_alone : RowSpan k W m S.one y one) (two_alone : RowSpan k W n S.two y two) where
   both_at : (i : ℕ) (t : List Float) →
-      add_at h n.a (get_or cpp (o.from + i) nan) (s.at + 3 * i) (add_at h m.a (get_or cpp (s.from + i) nan) (s.at + 3 * i) t)
+      add_at h o.a (get_or cpp (o.from + i) nan) (s.at + 3 * i) (add_at h s.a (get_or cpp (s.from + i) nan) (s.at + 3 * i) t)
       ≡ pixel_of h cpp k W n y (S.common.x0 + i) (pixel_of h cpp k W m y (S.common.x0 + i) t)
   both_at i t = sym (pixel_is h cpp k W n S.common y p.by_two o by_two i _
       ∙ rw (by_two.at_is, ← by_one.at_is, pixel_is h cpp k W m S.common y p.by_one s by_one i t))
 
-  pub share_row_is : (f : List Float) → span_of h n.a cpp two (span_of h m.a cpp one (pair_span h m.a n.a cpp s o f)) ≡ share_row h cpp k W m n S y f
+  pub share_row_is : (f : List Float) → span_of h cpp two (span_of h cpp one (pair_span h cpp s o f)) ≡ share_row h cpp k W m n S y f
   unfolding pair_span share_row pair_row from_to
   share_row_is f =
       rw (span_is h cpp k W n S.two y p.two_alone two two_alone, span_is h cpp k W m S.one y p.one_alone one one_alone, by_one.pixels_are)

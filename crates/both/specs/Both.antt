@@ -1,6 +1,6 @@
 -- A SHAPE FOR SPEED: nothing that a reader has to believe but `Twins`, which `add_both` asks for.
 -- Two kernels added at once, as a swap asks for. That this is the one added whole and then the other is `both_is` of proofs/Laws.antt.
-use Rattle.std.specs.Prelude.{◌≡◌, cond, List, ℕ, ◌+◌, ◌*◌, ◌<◌, ◌≤◌, max, min, ltb, Float}
+use Rattle.std.specs.Prelude.{◌≡◌, cond, List, ℕ, ◌+◌, ◌≤◌, max, min, ltb, Float}
 use Rattle.base.specs.declared.Rect.{Rect}
 use Rattle.base.specs.Loop.{from_to}
 use Rattle.base.specs.Grid.{Inside}

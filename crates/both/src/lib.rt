@@ -2,14 +2,13 @@
 // each pixel grows by the one and then by the other; then what each of the two reaches alone.
 #![tactic(auto)]
 
-ghost use Rattle.std.specs.Prelude.{◌≡◌, ◌+◌, ◌*◌, ◌<◌, ◌≤◌, length};
+ghost use Rattle.std.specs.Prelude.{◌≡◌, ◌*◌, length};
 ghost use Rattle.base.specs.Grid.{area};
 ghost use Rattle.cpp.specs.Kernel.{KernelFits, lum_kernel, chroma_kernel};
 ghost use Rattle.sweep.specs.Sweep.{sweep_of, add_kernels};
 ghost use Rattle.both.specs.Both.{share_of, lone_of, common_of, alone_of, Shares, Twins};
 
 use base::Rect;
-use color::YyCxCz;
 use spans::Channels;
 use std::ops::Range;
 use sweep::{Brush, Source};
@@ -41,18 +40,22 @@ fn share_rows(cpe: &mut [f64], b: Brush<'_>, m: Source, n: Source, s: Shared)
     for y in s.common.y0..s.common.y1 {
         let common = b.part_at(m, s.common, y);
         let other = b.part_at(n, s.common, y);
-        spans::add_spans(cpe, b.cpp, b.channels, m.a, n.a, common, other);
-        spans::add_pixel(cpe, b.cpp, b.channels, m.a, b.part_at(m, s.one, y));
-        spans::add_pixel(cpe, b.cpp, b.channels, n.a, b.part_at(n, s.two, y));
+        spans::add_spans(cpe, b.cpp, b.channels, common, other);
+        spans::add_pixel(cpe, b.cpp, b.channels, b.part_at(m, s.one, y));
+        spans::add_pixel(cpe, b.cpp, b.channels, b.part_at(n, s.two, y));
     }
 }
 
-// Of the range from f up to p what the range from g up to q has not, where that is at most one side.
+// Of the range f what the range g has not, where that is at most one side.
 #[tactic(auto, unfolding(crate::specs::Both::lone_of))]
-fn lone(f: usize, p: usize, g: usize, q: usize) -> Range<usize>
-    ensures { result ≡ lone_of f p g q }
+fn lone(f: Range<usize>, g: Range<usize>) -> Range<usize>
+    ensures { result ≡ lone_of f.start f.end g.start g.end }
 {
-    if f < g { f..g } else { p.min(q)..p }
+    if f.start < g.start {
+        f.start..g.start
+    } else {
+        f.end.min(g.end)..f.end
+    }
 }
 
 // What two footprints share.
@@ -71,8 +74,8 @@ fn common(f: Rect, g: Rect) -> Rect
 fn alone(f: Rect, g: Rect, c: Rect) -> Rest
     ensures { result ≡ alone_of f g c }
 {
-    let x = lone(f.x0, f.x1, g.x0, g.x1);
-    let y = lone(f.y0, f.y1, g.y0, g.y1);
+    let x = lone(f.x0..f.x1, g.x0..g.x1);
+    let y = lone(f.y0..f.y1, g.y0..g.y1);
     Rest {
         columns: Rect {
             x0: x.start,
@@ -97,8 +100,8 @@ fn sweep_both(cpe: &mut [f64], b: Brush<'_>, m: Source, n: Source)
     requires twins { Twins b.window m n }
     ensures { cpe.new ≡ sweep_of b.entry.channels n.a b.entry.cpp.now b.entry.kernel b.entry.window n.x n.y (sweep_of b.entry.channels m.a b.entry.cpp.now b.entry.kernel b.entry.window m.x m.y cpe.old) }
 {
-    let f = b.footprint(m.x, m.y);
-    let g = b.footprint(n.x, n.y);
+    let f = b.footprint(m);
+    let g = b.footprint(n);
     let common = common(f, g);
     let one = alone(f, g, common);
     let two = alone(g, f, common);
@@ -122,18 +125,6 @@ pub fn add_both(cpe: &mut [f64], cpp: &[f64], t: Tiling, w: Rect, m: Source, n: 
     requires twins { Twins w m n }
     ensures { cpe.new ≡ add_kernels cpp.now t w n.x n.y n.a (add_kernels cpp.now t w m.x m.y m.a cpe.old) }
 {
-    let lum = Brush {
-        cpp,
-        kernel: cpp::lum_kernel(t),
-        channels: Channels::Luminance,
-        window: w,
-    };
-    let chroma = Brush {
-        cpp,
-        kernel: cpp::chroma_kernel(t),
-        channels: Channels::Chrominance,
-        window: w,
-    };
-    sweep_both(cpe, lum, m, n);
-    sweep_both(cpe, chroma, m, n);
+    sweep_both(cpe, Brush::new(cpp, t, Channels::Luminance, w), m, n);
+    sweep_both(cpe, Brush::new(cpp, t, Channels::Chrominance, w), m, n);
 }

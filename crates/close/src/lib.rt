@@ -10,6 +10,7 @@ ghost use Rattle.job.specs.Close.{closed, close_of};
 
 use base::Refusal;
 use job::JobRecord;
+use tiling::Tiles;
 
 // Join the phase's deltas to the error and go on to the next phase.
 fn close(
@@ -22,14 +23,18 @@ fn close(
 {
     closetests::check_close(r, accepted_per_pass, tile_states, deltas)?;
     let plan = r.plan;
+    let t = Tiles {
+        tiling: plan.tiling,
+    };
     let phase = r.phase as usize;
-    let error = nextphase::add_deltas(plan.tiling, phase, deltas, r.error);
-    nextphase::release(plan.tiling, phase, tile_states);
+    let error = nextphase::add_deltas(t, phase, deltas, r.error);
+    nextphase::release(t, phase, tile_states);
     nextphase::store_count(r, accepted_per_pass);
     Ok(nextphase::next_record(r, error))
 }
 
 // The same on the run that the record is for a C host.
+#[tactic(auto, using(words::proofs::RunLaws::unread, words::proofs::RunLaws::read, written::proofs::Laws::after, written::proofs::Laws::not_after), unfolding(job::specs::Boundary::close_run, job::specs::Boundary::closed_over))]
 pub fn close_run(
     record: &mut [u64],
     accepted_per_pass: &mut [u32],

@@ -2,10 +2,13 @@
 use Prim.Native.Nat.{ℕ, suc, ◌<◌}
 use native.Mathlib.Omega.{arith}
 use native.Mathlib.Decide.{ℕ_discrete}
-use mathlib.Core.Path.{◌≡◌}
+use mathlib.Core.Path.{◌≡◌, refl}
 use mathlib.Core.Bool.{Bool, true, false}
+use borrow.Author.Tests.{lt-ltb, le-ltb}
+use Rattle.std.proofs.Common.{Some, None}
+use Rattle.fits.specs.Fits.{before}
 use Rattle.job.specs.Close.{first_of}
-use Rattle.job.proofs.FirstLaws.{First, first_one}
+use Rattle.job.proofs.FirstLaws.{first_one, none_first}
 
 -- none before i
 abbrev pub NoneBefore : (ℕ → Bool) → ℕ → Type 0
@@ -18,5 +21,12 @@ none_more f i g e j h = go (ℕ_discrete j i)
     go (yes q) = rw q e
     go (no q) = g j (omega (arith, q))
 
-pub first_is : (f : ℕ → Bool) (n i : ℕ) → i < n → f i ≡ true → NoneBefore f i → first_of f n ≡ i
-first_is f n i b t g = first_one f n i (record { bound = omega arith; before = g; there = λ h. t })
+-- code that has found one has the first
+pub first_found : (f : ℕ → Bool) (n i : ℕ) → i < n → f i ≡ true → NoneBefore f i → Some i ≡ before n (first_of f n)
+unfolding before
+first_found f n i b t g = rw (first_one f n i (record { bound = omega arith; before = g; there = λ h. t }), lt-ltb i n b) refl
+
+-- and code that has found none has none
+pub none_found : (f : ℕ → Bool) (n : ℕ) → NoneBefore f n → None ≡ before n (first_of f n)
+unfolding before
+none_found f n g = rw (none_first f n g, le-ltb n n (omega arith)) refl

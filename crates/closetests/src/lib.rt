@@ -4,7 +4,8 @@
 ghost use Rattle.std.specs.Prelude.{◌≡◌, not, ◌&&◌, length};
 ghost use Rattle.base.specs.Answer.{status_of};
 ghost use Rattle.base.specs.Refusal.{judge};
-ghost use Rattle.tiling.specs.Tiling.{Limits, tiles, in_phase};
+ghost use Rattle.tiling.specs.Tiling.{tiles, in_phase};
+ghost use Rattle.fits.specs.Fits.{before};
 ghost use Rattle.job.specs.declared.TileState.TheVariants.{Back};
 ghost use Rattle.job.specs.Record.{in_state};
 ghost use Rattle.job.specs.Close.{first_of, is_missing, close_tests};
@@ -12,31 +13,28 @@ ghost use Rattle.job.specs.Close.{first_of, is_missing, close_tests};
 use base::{Buffer, Refusal, refuse_if};
 use input::check_length;
 use job::{JobRecord, TileState};
-use tiling::Tiling;
+use records::CheckedJob;
 
 // Whether a tile in this state is one of the phase that is not back.
-fn is_missing(t: Tiling, phase: usize, tile: usize, state: u8) -> bool
-    requires { Limits t }
-    ensures { result ≡ (in_phase t phase tile && not (in_state Back state)) }
+fn is_missing(job: CheckedJob, tile: usize, state: u8) -> bool
+    ensures { result ≡ (in_phase job.job.plan.tiling job.job.phase tile && not (in_state Back state)) }
 {
-    t.is_in_phase(phase, tile) && !states::is_in(state, TileState::Back)
+    let phase = job.job.phase as usize;
+    job.tiles().is_in_phase(phase, tile) && !states::is_in(state, TileState::Back)
 }
 
-// The first tile of the phase that is not back, or the number of tiles.
-fn first_missing(r: JobRecord, tile_states: &[u8]) -> usize
-    requires limits { Limits r.plan.tiling }
-    requires tile_states_len { length tile_states.now ≡ tiles r.plan.tiling }
-    ensures { result ≡ first_of (is_missing r tile_states.now) (tiles r.plan.tiling) }
+// The first tile of the phase that is not back.
+// Kept: a tile's number tells whether it is of the phase, so that `position` would go over numbers with states and be no plainer.
+fn first_missing(job: CheckedJob, tile_states: &[u8]) -> Option<usize>
+    requires { length tile_states.now ≡ tiles job.job.plan.tiling }
+    ensures { result ≡ before (tiles job.job.plan.tiling) (first_of (is_missing job.job tile_states.now) (tiles job.job.plan.tiling)) }
 {
-    let plan = r.plan;
-    let t = plan.tiling;
-    let phase = r.phase as usize;
     for (i, state) in tile_states.iter().enumerate() {
-        if is_missing(t, phase, i, *state) {
-            return i;
+        if is_missing(job, i, *state) {
+            return Some(i);
         }
     }
-    tile_states.len()
+    None
 }
 
 // Refusals 12, 16, 11 and 15.
@@ -49,10 +47,10 @@ pub fn check_close(
 ) -> Result<(), Refusal>
     ensures { status_of result ≡ judge (close_tests r accepted_per_pass.now tile_states.now deltas.now) }
 {
-    let plan = r.plan;
-    records::check_record(r)?;
-    refuse_if(r.finished, Refusal::Finished)?;
-    let tiles = plan.tiling.tile_count();
+    let job = records::check_record(r)?;
+    let plan = job.job.plan;
+    refuse_if(job.job.finished, Refusal::Finished)?;
+    let tiles = job.tiles().tile_count();
     check_length(
         Buffer::AcceptedPerPass,
         accepted_per_pass.len(),
@@ -60,6 +58,8 @@ pub fn check_close(
     )?;
     check_length(Buffer::TileStates, tile_states.len(), tiles)?;
     check_length(Buffer::Deltas, deltas.len(), tiles)?;
-    let missing = first_missing(r, tile_states);
-    refuse_if(missing < tiles, Refusal::Missing(missing as u64))
+    if let Some(tile) = first_missing(job, tile_states) {
+        return Err(Refusal::Missing(tile as u64));
+    }
+    Ok(())
 }

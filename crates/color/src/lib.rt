@@ -121,6 +121,8 @@ pub fn palette_to_inks(palette: &[u8], inks: &mut [f64])
     requires inks_len { length inks.old ≡ length palette.now }
     ensures { inks.new ≡ ink_values palette.now }
 {
+    // Kept: tried by `chunks_exact_mut(3)` and `zip`, and the proof did not close, since the library says nothing of what is
+    // written through a chunk.
     for k in 0..palette.len() / 3 {
         let i = 3 * k;
         let ink = srgb_to_yycxcz(palette[i], palette[i + 1], palette[i + 2]);

@@ -4,12 +4,12 @@ use native.Mathlib.Nat.{mul-add, div-add-mod, mod-lt, div-lt_iff_lt-mul, mul_com
 use native.Mathlib.Omega.{arith}
 use mathlib.Core.Path.{◌≡◌, refl, sym, ap, ◌∙◌}
 use mathlib.Core.Bool.{Bool, true, false, true≢false}
-use mathlib.Core.List.{List, ◌++◌}
+use mathlib.Core.List.{List}
 use lib.Dec.{ltb}
-use lib.ListN.{length, get_or, take, drop, length-drop, get_or-append}
-use lib.Seq.{length-take-le, get_or-append-add, get_or-take, get_or-drop}
+use lib.ListN.{length, get_or, drop, length-drop}
+use lib.Seq.{length-take-le, get_or-take, get_or-drop}
 use borrow.Author.Tests.{ltb-true, ltb-false}
-use borrow.Rule.Slice.PartMut.{put_mid, mid_of, post_of, same_len_mid}
+use borrow.Rule.Slice.PartMut.{put_mid, mid_of, same_len_mid}
 use Rattle.base.specs.Limits.{max_pixels}
 use Rattle.base.specs.declared.Rect.{Rect}
 use Rattle.base.specs.Grid.{width, height, area, Inside, inside, Within, place, cell, crop, paste}

@@ -4,10 +4,22 @@
 #![tactic(auto)]
 
 ghost use Rattle.std.specs.Prelude.{◌≡◌, ◌*◌, ◌≤◌, length};
+ghost use Rattle.std.specs.Float.{nan};
 ghost use Rattle.base.specs.Grid.{area, crop, paste};
 ghost use Rattle.copy.specs.Part.{Holds};
 
-use base::{Rect, place};
+use base::{Index, Rect, place};
+
+// A row of one list over a row of another.
+// Kept: by `copy_from_slice` the library asks the host for `memmove` too, and its C interface is `memcpy` and `memset`.
+fn copy_row<T: Copy>(from: &[T], to: &mut [T])
+    requires { length from.now ≡ length to.old }
+    ensures { to.new ≡ from.now }
+{
+    for (i, cell) in to.iter_mut().enumerate() {
+        *cell = from[i];
+    }
+}
 
 // The part w of `from`, which is a list of f, over the same part of `to`, which is a list of p, k values a pixel: 3 of `cpe`
 // and 1 of the indices.
@@ -22,6 +34,25 @@ pub fn copy_part<T: Copy>(k: usize, from: &[T], f: Rect, to: &mut [T], p: Rect, 
         let a = place(k, f, w.x0, y);
         let b = place(k, p, w.x0, y);
         let (_, rest) = to.split_at_mut(b);
-        rest[..n].copy_from_slice(&from[a..a + n]);
+        copy_row(&from[a..a + n], &mut rest[..n]);
     }
+}
+
+// The part w of the image, `cpe` and the indices, as a copy of its own.
+pub fn copy_out(
+    cpe: &[f64],
+    indices: &[Index],
+    image: Rect,
+    w: Rect,
+    copy_cpe: &mut [f64],
+    copy_indices: &mut [Index],
+)
+    requires holds { Holds image w × Holds w w }
+    requires cpe_len { (length cpe.now ≡ 3 * area image) × (length indices.now ≡ area image) }
+    requires copy_cpe_len { (length copy_cpe.old ≡ 3 * area w) × (length copy_indices.old ≡ area w) }
+    ensures copy_cpe_after { copy_cpe.new ≡ crop nan 3 image w cpe.now }
+    ensures copy_indices_after { copy_indices.new ≡ crop 0 1 image w indices.now }
+{
+    copy_part(3, cpe, image, copy_cpe, w, w);
+    copy_part(1, indices, image, copy_indices, w, w);
 }

@@ -1,5 +1,5 @@
 -- Kernels in the kernel store `cpp` (document 01: 'Kernel store: 8,450 f64; luminance from 0, chrominance from 4,225, row by row').
-use Rattle.std.specs.Prelude.{◌≡◌, List, ℕ, ◌+◌, ◌*◌, ◌≤◌, get_or, length, Float}
+use Rattle.std.specs.Prelude.{◌≡◌, List, ℕ, ◌+◌, ◌*◌, ◌≤◌, get_or, length, take, drop, Float}
 use Rattle.std.specs.Float.{nan}
 use Rattle.base.specs.Limits.{max_radius, cpp_chroma, cpp_length}
 use Rattle.tiling.specs.declared.Tiling.{Tiling}
@@ -25,6 +25,10 @@ kernel_place k i j = k.from + (j * size k + i)
 -- and that value; the columns and rows of a kernel within its limits never lie past the store's end
 unfoldable pub kernel_at : List Float → Kernel2D → ℕ → ℕ → Float
 kernel_at cpp k i j = get_or cpp (kernel_place k i j) nan
+
+-- its values, row by row
+abbrev pub values_of : List Float → Kernel2D → List Float
+values_of cpp k = take (size k * size k) (drop k.from cpp)
 
 -- a kernel within its limits has room in the store
 pub record KernelFits (k : Kernel2D) (cpp : List Float) : Type 0 where

@@ -2,8 +2,9 @@
 // kernel from 0 on and the chrominance kernel from 4,225 on. `Kernel2D` and its `at` of dbs.rs.
 #![tactic(auto)]
 
-ghost use Rattle.std.specs.Prelude.{◌≡◌, ◌<◌};
-ghost use Rattle.cpp.specs.Kernel.{KernelFits, size, kernel_at, lum_kernel, chroma_kernel};
+ghost use Rattle.std.specs.Prelude.{◌≡◌, ◌<◌, ◌≤◌};
+ghost use Rattle.base.specs.Limits.{max_radius, cpp_chroma};
+ghost use Rattle.cpp.specs.Kernel.{KernelFits, size, kernel_place, kernel_at, values_of, lum_kernel, chroma_kernel};
 
 use base::CPP_CHROMA;
 use tiling::Tiling;
@@ -16,6 +17,63 @@ pub struct Kernel2D {
     pub radius: usize,
 }
 
+impl Kernel2D {
+    // Its columns, and its rows.
+    pub fn size(self) -> usize
+        requires { self.radius ≤ max_radius }
+        ensures { result ≡ size self }
+    {
+        2 * self.radius + 1
+    }
+
+    // Where the value in column i and row j stands in the store; i may be one past a row's end.
+    #[tactic(auto, using(crate::proofs::Laws::kernel_le))]
+    pub fn place(self, i: usize, j: usize) -> usize
+        requires radius_le_max_radius { (self.radius ≤ max_radius) × (self.from ≤ cpp_chroma) }
+        requires i_bound { (i ≤ size self) × (j < size self) }
+        ensures { result ≡ kernel_place self i j }
+    {
+        self.from + (j * self.size() + i)
+    }
+}
+
+// A kernel with the store that it stands in.
+#[derive(Clone, Copy)]
+pub struct Stored<'a> {
+    pub cpp: &'a [f64],
+    pub kernel: Kernel2D,
+    pub ghost fits: { KernelFits kernel cpp.now },
+}
+
+impl<'a> Stored<'a> {
+    // The value in column i and row j.
+    #[tactic(auto, using(crate::proofs::Laws::kernel_lt), unfolding(crate::specs::Kernel::kernel_at))]
+    pub fn at(self, i: usize, j: usize) -> f64
+        requires { (i < size self.kernel) × (j < size self.kernel) }
+        ensures { result ≡ kernel_at self.entry.cpp.now self.entry.kernel i j }
+    {
+        self.cpp[self.kernel.place(i, j)]
+    }
+
+    // The value at its centre.
+    pub fn centre(self) -> f64
+        ensures { result ≡ kernel_at self.entry.cpp.now self.entry.kernel self.entry.kernel.radius self.entry.kernel.radius }
+    {
+        self.at(self.kernel.radius, self.kernel.radius)
+    }
+
+    // Its values, row by row.
+    #[tactic(auto, using(crate::proofs::Laws::square_le))]
+    pub fn values(self) -> &'a [f64]
+        ensures { result.now ≡ values_of self.entry.cpp.now self.entry.kernel }
+    {
+        let from = self.kernel.from;
+        let size = self.kernel.size();
+        &self.cpp[from..from + size * size]
+    }
+}
+
+// Kept: two kernels of a line each, that differ in both fields: one function would take what tells them apart, and is no plainer.
 pub fn lum_kernel(t: Tiling) -> Kernel2D
     ensures { result ≡ lum_kernel t }
 {
@@ -32,15 +90,4 @@ pub fn chroma_kernel(t: Tiling) -> Kernel2D
         from: CPP_CHROMA,
         radius: t.chroma,
     }
-}
-
-// The kernel's value in column i and row j.
-#[tactic(auto, using(crate::proofs::Laws::kernel_lt), unfolding(crate::specs::Kernel::kernel_at))]
-pub fn kernel_at(cpp: &[f64], k: Kernel2D, i: usize, j: usize) -> f64
-    requires kernel_fits { KernelFits k cpp.now }
-    requires i_bound { (i < size k) × (j < size k) }
-    ensures { result ≡ kernel_at cpp.now k i j }
-{
-    let at = k.from + (j * (2 * k.radius + 1) + i);
-    cpp[at]
 }

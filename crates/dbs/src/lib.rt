@@ -26,6 +26,7 @@ use eye::DbsParams;
 use found::DbsFound;
 use input::Input;
 use perceived::Measured;
+use progress::Progress;
 use work::DbsWorked;
 
 // Refine the indices in place, by the plain walk over the whole image.
@@ -50,7 +51,7 @@ pub fn dbs_refine(
         viewing_distance_cm,
         ppi,
     };
-    refine::refine(
+    DbsStats::from(refine::refine(
         pixels,
         width,
         height,
@@ -63,7 +64,7 @@ pub fn dbs_refine(
         cpp,
         accepted_per_pass,
         inks,
-    )
+    ))
 }
 
 // Perceived error of the indices; pins play no part.
@@ -82,7 +83,17 @@ pub fn perceived_error(
         viewing_distance_cm,
         ppi,
     };
-    perceived::measure(pixels, width, height, palette, indices, params)
+    // An empty mask: nothing is pinned.
+    let given = Input {
+        width,
+        height,
+        pixels,
+        palette,
+        indices,
+        pinned: &[],
+        params,
+    };
+    Measured::from(perceived::measure(given))
 }
 
 // The first pixel, in the order of a whole pass, at which a move would be accepted.
@@ -114,7 +125,7 @@ pub fn dbs_find_move(
         pinned,
         params,
     };
-    findmove::find_move(given, cpe, cpp, inks)
+    DbsFound::from(findmove::find_move(given, cpe, cpp, inks))
 }
 
 // Open a job: everything up to the walk.
@@ -226,8 +237,10 @@ pub fn dbs_put_back(
         deltas,
         copy_cpe,
         copy_indices,
-        accepted,
-        delta,
+        Progress {
+            accepted: accepted as usize,
+            delta,
+        },
     ))
 }
 

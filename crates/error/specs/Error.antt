@@ -9,7 +9,6 @@ use Rattle.color.specs.Values.{values_at, less_of}
 use Rattle.color.specs.YyCxCz.{yycxcz}
 use Rattle.color.specs.Inks.{channel}
 use Rattle.pins.specs.Pins.{pinned_at, MaskFits}
-use Rattle.tiling.specs.declared.Tiling.{Tiling}
 
 -- What errors are made of, each list row by row. Of a scene that fits, as the functions require, no default of a `get_or` is read.
 pub record Scene : Type 0 where
@@ -53,10 +52,10 @@ module _ (w : ℕ) (G : Scene) (cpe : List Float) (c : ℕ) where
   unfoldable pub channel_error : ℕ → Float
   channel_error n = up_to error_term n f0
 
--- 'Initial error as in `dbs_refine`, channel by channel'
-unfoldable pub initial_error : Tiling → Scene → List Float → Float
-initial_error T G cpe =
-    let sum : ℕ → Float = λ c. channel_error T.width G cpe c (T.height * T.width) in
+-- of an image of w columns and h rows: 'Initial error as in `dbs_refine`, channel by channel'
+unfoldable pub initial_error : ℕ → ℕ → Scene → List Float → Float
+initial_error w h G cpe =
+    let sum : ℕ → Float = λ c. channel_error w G cpe c (h * w) in
     f0 +f sum 0 +f sum 1 +f sum 2
 
 -- ---- what the functions require

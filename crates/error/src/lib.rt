@@ -13,7 +13,6 @@ ghost use Rattle.error.specs.Rows.{error_in_row};
 use base::Index;
 use color::{Channel, YyCxCz};
 use pins::Pins;
-use tiling::Tiling;
 
 // What errors are made of, each list row by row: the target, the halftone, the pin mask and the ink values.
 #[derive(Clone, Copy)]
@@ -39,7 +38,22 @@ fn add_products(s: YyCxCz, a: YyCxCz, b: YyCxCz) -> YyCxCz
 }
 
 impl<'a> Scene<'a> {
-    ghost use Rattle.error.specs.Scenes.{image_of};
+    ghost use Rattle.error.specs.Scenes.{image_of, unpinned_of};
+
+    // The same with nothing pinned.
+    pub fn unpinned(self) -> Scene<'a>
+        ensures size { (result.width ≡ self.entry.width) × (result.height ≡ self.entry.height) }
+        ensures image { image_of result ≡ unpinned_of self.entry }
+    {
+        Scene {
+            width: self.width,
+            height: self.height,
+            pixels: self.pixels,
+            indices: self.indices,
+            pinned: &[],
+            inks: self.inks,
+        }
+    }
 
     // The error of pixel (x, y): its ink less its target, which is its colour or, where it is pinned, its own ink.
     pub fn error_at(self, x: usize, y: usize) -> YyCxCz
@@ -47,7 +61,7 @@ impl<'a> Scene<'a> {
         ensures { result ≡ error_at self.entry.width (image_of self.entry) x y }
     {
         let i = y * self.width + x;
-        let k = self.indices[i] as usize;
+        let k = usize::from(self.indices[i]);
         let ink = color::values_at(self.inks, 3 * k);
         let j = 3 * i;
         let colour = color::srgb_to_yycxcz(self.pixels[j], self.pixels[j + 1], self.pixels[j + 2]);
@@ -72,10 +86,9 @@ impl<'a> Scene<'a> {
     }
 
     // The error of the starting halftone, given `cpe`.
-    pub fn initial_error(self, cpe: &[f64], t: Tiling) -> f64
-        requires size { (self.width ≡ t.width) × (self.height ≡ t.height) }
-        requires cpe_len { length cpe.now ≡ 3 * (t.height * t.width) }
-        ensures { result ≡ initial_error t (image_of self.entry) cpe.now }
+    pub fn initial_error(self, cpe: &[f64]) -> f64
+        requires { length cpe.now ≡ 3 * (self.height * self.width) }
+        ensures { result ≡ initial_error self.entry.width self.entry.height (image_of self.entry) cpe.now }
     {
         let mut s = YyCxCz::default();
         for i in 0..self.height * self.width {

@@ -134,7 +134,7 @@ module _ (T : Tiling) (G : Scene) (cpp : List Float) (l : Limits T) (f : SceneFi
   channel_error_within c =
       more 70883737600 (omega (arith, few_pixels)) (up_to_grown (Bounded 39) 4225 (error_term T.width G cpe c) n 0 (error_term_lem c) f0 (zero_within 39))
 
-  pub initial_within : Bounded cost_exponent 1 (initial_error T G cpe)
+  pub initial_within : Bounded cost_exponent 1 (initial_error T.width T.height G cpe)
   unfolding initial_error
   initial_within =
       let a = channel_error_within 0 in

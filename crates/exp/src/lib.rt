@@ -5,6 +5,7 @@ ghost use Rattle.std.specs.Prelude.{◌≡◌, ◌-◌};
 ghost use Rattle.exp.specs.Exp.{series, exp_of};
 
 // s of `exp` after the steps 10, 9, .., k.
+// Kept: document 01 asks for it: 'First write this as a recursion over k.'
 fn exp_series(y: f64, k: u32) -> f64
     ensures { result ≡ series y (11 - k) }
 {

@@ -1,44 +1,15 @@
--- For a t of at most 16, the float test k < t of `blur_radius` is the test of k against ceil t: the f64 of a k up to 16 is k itself,
--- so both compare k with the fraction that t is. Assumes nothing.
-use Rattle.std.proofs.Common.{◌≡◌, ℕ, ◌*◌, ◌<◌, ◌≤◌, Bool, true, false, T, ltb, sym, refl, ap, true≢false, le_trans, lt_of_mul-lt-mul_right, le_of_mul-le-mul_right, arith, lit≤, ltb-false, ltb-true, le-ltb, lt-ltb}
-use lib.Ieee.{Float, nan, inf, fin, up, down, binary64, lt, le, of_int, of_bits}
+-- For a t of at most 16, the library's `ceil`, cast to a whole number, is ceil t: a whole number up to 16 is an f64. Assumes nothing.
+use Rattle.std.proofs.Common.{◌≡◌, ℕ, ◌+◌, ◌-◌, ◌*◌, ◌/◌, ◌≤◌, Bool, true, false, cond, T, ltb, suc, zero, refl, ap, ◌∙◌, le_trans, arith, lit≤}
+use lib.Ieee.{Float, nan, inf, fin, up, down, binary64, le, of_bits, of_int, in_float, round, units, odd, low, emax, prec, size, nearest, to_unsigned}
 use lib.Ieee.Fits.{down_pos}
-use lib.Ieee.Exact.{HasValue}
-use lib.Ieee.Back.{round_whole}
-use Prim.Native.Nat.{zero-le}
-use Rattle.base.specs.F64.{wholef}
+use lib.Ieee.Back.{unsigned_back}
+use lib.Dec.{le→leb}
+use lib.IntN.{pos}
+use Prim.Native.Nat.{zero-le, ◌%◌, ◌^◌, compare}
+use Rattle.std.specs.Float as float
 use Rattle.eye.specs.Constants.{truncation_max}
-use Rattle.eye.specs.Ceil.{ceil, ceil-not_below, ceil_least}
+use Rattle.eye.specs.Ceil.{ceil, ceil_least}
 use Rattle.eye.proofs.NonNegative.{cross}
-
--- two tests of which each follows from the other
-ltb_same : (a b c d : ℕ) → (a < b → c < d) → (b ≤ a → d ≤ c) → ltb a b ≡ ltb c d
-ltb_same a b c d f g = go (ltb a b) refl
-  where
-    go : (t : Bool) → ltb a b ≡ t → t ≡ ltb c d
-    go true e = sym (lt-ltb c d (f (ltb-true a b e)))
-    go false e = sym (le-ltb c d (g (ltb-false a b e)))
-
--- at an x that is the whole number k
-test_value : (x t : Float) (k : ℕ) → HasValue x false k 1 → T (le t truncation_max) → lt x t ≡ ltb k (ceil t)
-unfolding lt le of_bits
-test_value nan t k v b = absurd v
-test_value (inf s) t k v b = absurd v
-test_value (fin true n d) t k v b = absurd (true≢false v.0)
-test_value (fin false n d) nan k v b = absurd b
-test_value (fin false n d) (inf false) k v b = absurd b
-test_value (fin false n d) (inf true) k v b = unfold ceil in sym (le-ltb k 0 zero-le)
-test_value (fin false n d) (fin true m e) k v b = unfold ceil in sym (le-ltb k 0 zero-le)
-test_value (fin false n d) (fin false m e) k v b =
-    let whole : n * up d * down e ≡ k * down e * down d = omega (arith, ap (λ (z : ℕ). z * down e) v.1) in
-    ltb_same (n * up d * down e) (m * up e * down d) k (ceil (fin false m e))
-    (λ h. let under : k * down e < m * up e = lt_of_mul-lt-mul_right (down d) (omega (arith, whole, h)) in
-    lt_of_mul-lt-mul_right (down e) (omega (arith, under, ceil-not_below m e)))
-    (λ h. ceil_least m e k (le_of_mul-le-mul_right (omega (arith, whole, h)) (down_pos d)))
-
-pub test-ceil : (t : Float) (k : ℕ) → k ≤ 16 → T (le t truncation_max) → lt (wholef k) t ≡ ltb k (ceil t)
-unfolding of_int
-test-ceil t k h b = test_value (wholef k) t k (round_whole binary64 false k (le_trans h (lit≤ tt))) b
 
 pub ceil_bound : (t : Float) → T (le t truncation_max) → ceil t ≤ 16
 unfolding le of_bits
@@ -46,3 +17,36 @@ ceil_bound nan h = absurd h
 ceil_bound (inf s) h = unfold ceil in zero-le
 ceil_bound (fin true m e) h = unfold ceil in zero-le
 ceil_bound (fin false m e) h = ceil_least m e 16 (omega (arith, cross m e 1 (lib.IntN.pos 4) h))
+
+-- a negative float is cast to 0
+cond_none : (b : Bool) (x y : Float) → to_unsigned 64 x ≡ 0 → to_unsigned 64 y ≡ 0 → to_unsigned 64 (cond b x y) ≡ 0
+cond_none true x y p q = p
+cond_none false x y p q = q
+
+odd_none : (d q k l : ℕ) → to_unsigned 64 (odd d true q k l) ≡ 0
+unfolding odd to_unsigned
+odd_none d zero k l = refl
+odd_none d (suc q) k l = refl
+
+round_none : (a b : ℕ) → to_unsigned 64 (round binary64 true a b) ≡ 0
+unfolding round units to_unsigned
+round_none a b =
+    let n = a * 2 ^ low binary64 in
+    let k = size (n / b) - prec binary64 in
+    let q = nearest (n / (b * 2 ^ k)) (compare (n % (b * 2 ^ k) * 2) (b * 2 ^ k)) in
+    cond_none (ltb (q * 2 ^ k) (2 ^ (low binary64 + suc (emax binary64)))) (odd (suc (prec binary64)) true q k (low binary64)) (inf true) (odd_none (suc (prec binary64)) q k (low binary64)) refl
+
+-- a small number is cast to itself
+whole_cast : (n : ℕ) → n ≤ 16 → to_unsigned 64 (round binary64 false n 1) ≡ n
+unfolding of_int in_float
+whole_cast n h = (unsigned_back binary64 64 n (le→leb n (2 ^ 53) (le_trans h (lit≤ tt))) (omega (arith, h))).1
+
+pub ceil_cast : (t : Float) → T (le t truncation_max) → to_unsigned 64 (float.ceil binary64 t) ≡ ceil t
+unfolding le of_bits float.round_with to_unsigned ceil
+ceil_cast nan h = absurd h
+ceil_cast (inf false) h = absurd h
+ceil_cast (inf true) h = refl
+ceil_cast (fin true m e) h = round_none _ 1
+ceil_cast (fin false m e) h =
+    let same : m * up e + down e - 1 ≡ m * up e + (down e - 1) = omega (arith, down_pos e) in
+    ap (λ (k : ℕ). to_unsigned 64 (round binary64 false (k / down e) 1)) same ∙ whole_cast _ (ceil_bound (fin false m e) h)

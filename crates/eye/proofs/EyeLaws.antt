@@ -44,7 +44,7 @@ ordered_widths p t =
     div_mono width_lum width_chroma (to_degrees (cm_per_inch /f p.ppi /f p.viewing_distance_cm)) widths.0 widths.1 widths.2 degrees
 
 pub narrow_both : (p : DbsParams) → Passes (eye_tests p) → Narrow (sigma_px alpha_lum p) × Narrow (sigma_px alpha_chroma p)
-unfolding eye_tests Passes Narrow
+unfolding eye_tests Passes
 narrow_both p t = both_narrow (sigma_px alpha_lum p) (sigma_px alpha_chroma p) (ordered_widths p t) t.1.1.1.0
 
 -- so the one test of the luminance bounds both widths from below
@@ -52,8 +52,12 @@ pub wide_both : (p : DbsParams) → Passes (eye_tests p) → T (le sigma_min (si
 unfolding eye_tests Passes
 wide_both p t = both_wide (sigma_px alpha_lum p) (sigma_px alpha_chroma p) (ordered_widths p t) t.1.1.0
 
+pub radius_most : (sigma : Float) → Narrow sigma → blur_radius sigma ≤ 16
+unfolding blur_radius
+radius_most sigma h = let c = ceil_bound (truncation sigma) h in omega arith
+
 narrow_radius : (alpha : Float) (p : DbsParams) → Narrow (sigma_px alpha p) → KernelRadius (kernel_radius alpha p)
-unfolding kernel_radius blur_radius Narrow
+unfolding kernel_radius blur_radius
 narrow_radius alpha p h =
     let c = ceil_bound (truncation (sigma_px alpha p)) h in
     record { even = omega arith; low = omega arith; high = omega arith }

@@ -37,7 +37,7 @@ pub record KernelRadius (R : ℕ) : Type 0 where
   pub high : R ≤ max_radius
 
 -- 2.5σ is at most 16 (and so no NaN)
-unfoldable pub Narrow : Float → Type 0
+abbrev pub Narrow : Float → Type 0
 Narrow sigma = T (le (truncation sigma) truncation_max)
 
 unfoldable pub is_finite_positive : Float → Bool

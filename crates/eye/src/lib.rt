@@ -4,12 +4,14 @@
 #![tactic(auto)]
 
 ghost use Rattle.std.specs.Prelude.{◌≡◌, ◌≤◌};
-ghost use Rattle.base.specs.Refusal.{judge};
+ghost use Rattle.base.specs.Refusal.{judge, accepted};
 ghost use Rattle.base.specs.Answer.{status_of, Tested};
+ghost use Rattle.eye.specs.Constants.{alpha_lum, alpha_chroma};
 ghost use Rattle.eye.specs.Eye.{sigma_px, is_finite_positive, Narrow, blur_radius, eye_tests, eye_of};
 
 use base::{Refusal, refuse_if};
 use std::f64::consts::PI;
+use std::num::saturating_f64_to_usize;
 
 // Kolpatzik & Bouman (1992) exponential CSF decay constants, W(f) ∝ exp(-α·f), f in cycles/degree.
 // Luminance: Näsänen's α(L) = 1 / (0.525·ln L + 3.91) at L = 11 cd/m² ≈ 0.193.
@@ -37,6 +39,20 @@ pub struct DbsParams {
     pub ppi: f64,
 }
 
+// A blur width in pixels whose blur reaches at most 16 pixels.
+#[derive(Clone, Copy)]
+pub struct Width {
+    pub sigma: f64,
+    pub ghost narrow: { Narrow sigma },
+}
+
+// Both blur widths of an eye.
+#[derive(Clone, Copy)]
+pub struct Widths {
+    pub lum: Width,
+    pub chroma: Width,
+}
+
 // What `validate` finds: the radii of both autocorrelation kernels.
 #[derive(Clone, Copy, PartialEq, Eq)]
 pub struct Eye {
@@ -52,18 +68,15 @@ pub fn eye_sigma_px(alpha: f64, params: DbsParams) -> f64
     alpha / (2.0 * PI) / pixel_deg
 }
 
-// The larger of 1 and the least whole number not below 2.5 sigma: document 01's reach.
-pub fn blur_radius(sigma: f64) -> usize
-    requires { Narrow sigma }
-    ensures value { result ≡ blur_radius sigma }
-    ensures upper_bound { result ≤ 16 }
-{
-    let t = BLUR_TRUNCATION_SIGMAS * sigma;
-    let mut r = 1u32;
-    while (r as f64) < t {
-        r += 1;
+impl Width {
+    // The larger of 1 and the least whole number not below 2.5 sigma: document 01's reach.
+    pub fn radius(self) -> usize
+        ensures value { result ≡ blur_radius self.sigma }
+        ensures upper_bound { result ≤ 16 }
+    {
+        let t = BLUR_TRUNCATION_SIGMAS * self.sigma;
+        saturating_f64_to_usize(t.ceil()).max(1)
     }
-    r as usize
 }
 
 // Finite and above 0.
@@ -93,14 +106,30 @@ fn check(p: DbsParams) -> Result<(), Refusal>
 }
 
 impl DbsParams {
+    // Both blur widths of an accepted eye.
+    pub fn widths(self) -> Widths
+        requires { judge (eye_tests self) ≡ accepted }
+        ensures lum { result.lum.sigma ≡ sigma_px alpha_lum self }
+        ensures chroma { result.chroma.sigma ≡ sigma_px alpha_chroma self }
+    {
+        let lum = Width {
+            sigma: eye_sigma_px(ALPHA_LUM, self),
+        };
+        let chroma = Width {
+            sigma: eye_sigma_px(ALPHA_CHROMA, self),
+        };
+        Widths { lum, chroma }
+    }
+
     // Refusals 7, 8 and 9 in order, and both kernel radii where none applies.
     pub fn validate(self) -> Result<Eye, Refusal>
         ensures { Tested result (eye_tests self) (eye_of self) }
     {
         check(self)?;
+        let widths = self.widths();
         Ok(Eye {
-            lum_radius: 2 * blur_radius(eye_sigma_px(ALPHA_LUM, self)),
-            chroma_radius: 2 * blur_radius(eye_sigma_px(ALPHA_CHROMA, self)),
+            lum_radius: 2 * widths.lum.radius(),
+            chroma_radius: 2 * widths.chroma.radius(),
         })
     }
 }

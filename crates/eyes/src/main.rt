@@ -9,7 +9,7 @@ ghost use Rattle.eye.specs.Eye.{eye_tests, KernelRadius};
 
 use base::{CPP_CHROMA, CPP_LEN, Status};
 use checksum::Checksum;
-use eye::DbsParams;
+use eye::{DbsParams, Eye};
 use std::io::{self, Print};
 
 // The bits of ppi and of viewing_distance_cm of each eye.
@@ -80,20 +80,13 @@ const EYES: [(u64, u64); 63] = [
 ];
 
 // Computes both kernels of an accepted eye into cpp and gives their checksum.
-fn kernels(
-    params: DbsParams,
-    lum_radius: usize,
-    chroma_radius: usize,
-    cpp: &mut [f64; CPP_LEN],
-) -> Checksum
+fn kernels(params: DbsParams, eye: Eye, cpp: &mut [f64; CPP_LEN]) -> Checksum
     requires params_value { judge (eye_tests params) ≡ accepted }
-    requires kernel_radius { KernelRadius lum_radius × KernelRadius chroma_radius }
+    requires kernel_radius { KernelRadius eye.lum_radius × KernelRadius eye.chroma_radius }
 {
     kernel::eye_kernels(params, cpp);
-    let lum_size = 2 * lum_radius + 1;
-    let lum_end = lum_size * lum_size;
-    let chroma_size = 2 * chroma_radius + 1;
-    let chroma_end = CPP_CHROMA + chroma_size * chroma_size;
+    let lum_end = blur::value_count(eye.lum_radius);
+    let chroma_end = CPP_CHROMA + blur::value_count(eye.chroma_radius);
     Checksum::of(&cpp[..lum_end]).with(&cpp[CPP_CHROMA..chroma_end])
 }
 
@@ -102,11 +95,10 @@ fn answer(rt: &impl Print, params: DbsParams, cpp: &mut [f64; CPP_LEN]) -> io::R
     let eye = match params.validate() {
         Ok(eye) => eye,
         Err(refusal) => {
-            let status = Status::from(refusal);
-            return println!(rt; " {} {}", status.number, status.place);
+            return println!(rt; " {}", Status::from(refusal));
         }
     };
-    let sum = kernels(params, eye.lum_radius, eye.chroma_radius, cpp);
+    let sum = kernels(params, eye, cpp);
     println!(rt; " {} {} {sum}", eye.lum_radius, eye.chroma_radius)
 }
 

@@ -1,14 +1,13 @@
 -- The field line by line: a channel as a block, one channel more, and the whole field. Assumes nothing.
 use Prim.Native.Nat.{ℕ, zero, suc, ◌+◌, ◌*◌, ◌-◌, ◌/◌, ◌%◌, ◌<◌, ◌≤◌, min}
 use native.Mathlib.Omega.{arith}
-use native.Mathlib.Nat.{zero-add, mod-lt, div-lt_iff_lt-mul, div-add-mod', mul_assoc, mul_comm, add-mul, mul-le-mul, mul-le-mul_right}
+use native.Mathlib.Nat.{zero-add, mod-lt, div-lt_iff_lt-mul, div-add-mod', mul_assoc, mul_comm, add-mul, mul-le-mul_right}
 use mathlib.Core.Path.{◌≡◌, refl, sym, ap, ◌∙◌}
 use mathlib.Core.Logic.{◌≢◌, ⊎_elim}
 use mathlib.Core.List.{List, [], ◌∷◌}
-use lib.ListN.{length, get_or}
+use lib.ListN.{length, get_or, drop, length-drop}
+use lib.Seq.{length-take-le}
 use lib.Ieee.{Float, nan}
-use borrow.Rule.Slice.PartMut.{mid_of, mid_len}
-use Rattle.base.specs.Limits.{max_radius, cpp_chroma}
 use Rattle.base.specs.Loop.{table}
 use Rattle.base.specs.F64.{f0}
 use Rattle.base.proofs.Bounds.{index_lt, image_product, lt_or_ge}
@@ -19,7 +18,8 @@ use Rattle.color.specs.declared.Channel.TheVariants.{Yy, Cx, Cz}
 use Rattle.color.specs.Inks.{number}
 use Rattle.tiling.specs.declared.Tiling.{Tiling}
 use Rattle.cpp.specs.declared.Kernel2D.{Kernel2D}
-use Rattle.cpp.specs.Kernel.{KernelFits, size, kernel_at}
+use Rattle.cpp.specs.Kernel.{KernelFits, size, kernel_at, values_of}
+use Rattle.cpp.proofs.Laws.{square_le}
 use Rattle.correlate.specs.Correlate.{at, cell_at, Spread}
 use Rattle.correlate.proofs.RowLaws.{at_mid}
 use Rattle.correlate.proofs.SpreadLaws.{spread_same}
@@ -31,10 +31,6 @@ use Rattle.weave.specs.Woven.{Woven}
 use Rattle.field.specs.Lines.{channel_lines, channel_block, channel_sum, FieldLines}
 
 -- ---- the kernel of a channel
-
--- a kernel within its limits
-square_most : (r : ℕ) → r ≤ max_radius → (2 * r + 1) * (2 * r + 1) ≤ cpp_chroma
-square_most r h = let e : 2 * r + 1 ≤ 65 = omega (arith, h) in omega (arith, mul-le-mul e e)
 
 kernel_fits : (T : Tiling) (w h : ℕ) (cpp : List Float) (c : ℕ) → FieldFits T w h (length cpp) → KernelFits (channel_kernel T c) cpp
 unfolding channel_kernel
@@ -59,9 +55,6 @@ number_at (suc (suc (suc i))) d h = absurd (omega arith)
 tap_in : (v r y h : ℕ) → y - r ≤ v → v < min h (y + r + 1) → v + r - y < 2 * r + 1
 tap_in v r y h low high = omega (arith, low, high)
 
-part_in : (n a m : ℕ) → n < m → n < a + m - a
-part_in n a m h = omega (arith, h)
-
 module _ (T : Tiling) (w h : ℕ) (G : Scene) (cpp : List Float) (C : Channel) (fits : FieldFits T w h (length cpp)) (k : Kernel2D) (own : k ≡ channel_kernel T (number C)) where
   abbrev c : ℕ
   c = number C
@@ -69,19 +62,15 @@ module _ (T : Tiling) (w h : ℕ) (G : Scene) (cpp : List Float) (C : Channel) (
   abbrev r : ℕ
   r = k.radius
 
-  own_fits : KernelFits k cpp
+  pub own_fits : KernelFits k cpp
   own_fits = rw own (kernel_fits T w h cpp c fits)
 
   -- the kernel's values in the store
   abbrev pub taps : List Float
-  taps = mid_of k.from (k.from + size k * size k - k.from) cpp
-
-  -- the values lie in the store
-  pub own_room : (k.from + size k * size k ≤ length cpp) × (size k ≤ 65)
-  own_room = let f = own_fits in (omega (arith, square_most r f.most, f.room), omega (arith, f.most))
+  taps = values_of cpp k
 
   long_taps : length taps ≡ size k * size k
-  long_taps = mid_len k.from (k.from + size k * size k) cpp own_room.0 ∙ (omega arith)
+  long_taps = let f = own_fits in length-take-le (size k * size k) (drop k.from cpp) (omega (arith, square_le r f.most, f.room, length-drop k.from cpp))
 
   pub block_fits : (line cpe : ℕ) → line ≡ T.width → cpe ≡ 3 * (T.height * T.width) → BlockFits w h (channel_block T C r) (length taps) line cpe
   block_fits line cpe l e =
@@ -115,8 +104,8 @@ module _ (T : Tiling) (w h : ℕ) (G : Scene) (cpp : List Float) (C : Channel) (
       let row : v + r - y < size k = tap_in v r y T.height low high in
       let column : u + r - x < size k = tap_in u r x T.width left right in
       let n = (v + r - y) * size k + (u + r - x) in
-      let inside = part_in n k.from (size k * size k) (index_lt (u + r - x) (v + r - y) (size k) (size k) column row) in
-      rw (twice, at_mid k.from (k.from + size k * size k - k.from) cpp n inside))))
+      let inside = index_lt (u + r - x) (v + r - y) (size k) (size k) column row in
+      rw (twice, at_mid k.from (size k * size k) cpp n inside))))
 
   pub channel_made : (B : Block) (cpe cpe' : List Float) → B ≡ channel_block T C r → Spread B.lines 0 B.rows (sum_rows w B G taps h) cpe cpe' →
       Spread (channel_lines T c) 0 T.height (channel_sum T G cpp c) cpe cpe'

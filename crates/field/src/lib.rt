@@ -14,11 +14,12 @@ use base::MAX_SIDE;
 use block::Block;
 use color::Channel;
 use correlate::Lines;
-use cpp::Kernel2D;
+use cpp::{Kernel2D, Stored};
 use error::Scene;
 use tiling::Tiling;
 
 // The kernel of a channel, `cpp[ch]` of dbs.rs.
+#[tactic(auto, unfolding(crate::specs::Field::channel_kernel))]
 fn channel_kernel(t: Tiling, c: Channel) -> Kernel2D
     ensures { result ≡ channel_kernel t (number c) }
 {
@@ -60,10 +61,9 @@ fn correlate_channel(
     requires room { (length line.old ≡ t.width) × (length cpe.old ≡ 3 * (t.height * t.width)) }
     ensures { Spread (channel_lines t (number c)) 0 t.height (channel_sum t (image_of scene.entry) cpp.now (number c)) cpe.old cpe.new }
 {
-    let k = channel_kernel(t, c);
-    let size = 2 * k.radius + 1;
-    let taps = &cpp[k.from..k.from + size * size];
-    channel_block(t, c, k.radius).correlate(scene, taps, line, cpe);
+    let kernel = channel_kernel(t, c);
+    let taps = Stored { cpp, kernel }.values();
+    channel_block(t, c, kernel.radius).correlate(scene, taps, line, cpe);
 }
 
 // The initial `cpe`, three values a pixel: document 01's field.

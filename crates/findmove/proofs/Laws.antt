@@ -13,14 +13,14 @@ use Rattle.base.proofs.JudgeLaws.{refuses}
 use Rattle.base.specs.Rows.{Judged}
 use Rattle.base.proofs.AnswerLaws.{Answers, answers, judged}
 use Rattle.tiling.specs.declared.Tiling.{Tiling}
-use Rattle.input.specs.Input.{Input, ink_count, find_tests}
+use Rattle.input.specs.Input.{Input, input_tests, find_tests}
 use Rattle.input.specs.Valid.{ValidFind}
 use Rattle.input.specs.Rows.{find_rows}
 use Rattle.input.proofs.Validity.{find_numbered, find_passes}
 use Rattle.input.proofs.RowsOf.{find_rows_lem}
 use Rattle.search.specs.Shared.{shared}
 use Rattle.prepare.specs.Prepare.{ReadyToPrepare, Built, tiling_of, shared_of}
-use Rattle.prepare.proofs.Laws.{ready_to_prepare}
+use Rattle.prepare.proofs.Laws.{ready_to_prepare, built_inks}
 use Rattle.firstmove.specs.declared.FirstMove.{FirstMove}
 use Rattle.firstmove.specs.FirstMove.{first_in_pass}
 use Rattle.found.specs.Found.{refused_of, searched_of}
@@ -29,10 +29,10 @@ use Rattle.findmove.specs.FindMove.{search, first_of, search_accepted, finding, 
 
 -- ---- an accepted input
 
-pub searches_as : (I : Input) (T : Tiling) (inks cpp₀ cpp cpe : List Float) (f : Option FirstMove) → T ≡ tiling_of I → Built I cpp₀ inks cpp cpe →
-    f ≡ first_in_pass (shared T (length I.palette / 3) I.pinned inks cpp) cpe I.indices → search f cpe cpp inks ≡ search_accepted I cpp₀
-unfolding search_accepted first_of shared_of ink_count
-searches_as I T inks cpp₀ cpp cpe f t p e = rw (e, t, p.inks_is, p.cpp_is, p.cpe_is)
+pub searches_as : (I : Input) (T : Tiling) (inks cpp₀ cpp cpe : List Float) (f : Option FirstMove) → T ≡ tiling_of I → Built I cpp₀ inks cpp cpe → judge (input_tests I) ≡ accepted →
+    f ≡ first_in_pass (shared T (length inks / 3) I.pinned inks cpp) cpe I.indices → search f cpe cpp inks ≡ search_accepted I cpp₀
+unfolding search_accepted first_of shared_of
+searches_as I T inks cpp₀ cpp cpe f t p ok e = rw (e, built_inks I T inks cpp₀ cpp cpe t p ok, t, p.inks_is, p.cpp_is, p.cpe_is)
 
 -- ---- every input
 

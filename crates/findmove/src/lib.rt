@@ -4,10 +4,11 @@
 ghost use Rattle.std.specs.Prelude.{◌≡◌, length};
 ghost use Rattle.input.specs.Inputs.{input_of};
 ghost use Rattle.prepare.specs.Prepare.{ReadyToPrepare};
+ghost use Rattle.found.specs.Found.{answer_of};
 ghost use Rattle.findmove.specs.FindMove.{search, search_accepted, finding, find_of};
 
+use base::Refusal;
 use firstmove::FirstMove;
-use found::DbsFound;
 use input::Input;
 use search::Setup;
 use tiling::Tiling;
@@ -26,7 +27,6 @@ fn find_accepted(
     prepare::build(given, t, inks, cpp, cpe);
     let setup = Setup {
         tiling: t,
-        count: given.palette.len() / 3,
         pinned: given.pinned,
         inks,
         cpp,
@@ -35,13 +35,14 @@ fn find_accepted(
 }
 
 // The first pixel, in the order of a whole pass, at which a move would be accepted.
-pub fn find_move(given: Input<'_>, cpe: &mut [f64], cpp: &mut [f64], inks: &mut [f64]) -> DbsFound
-    ensures { finding result cpe.new cpp.new inks.new ≡ find_of (input_of given.entry) cpe.old cpp.old inks.old }
+pub fn find_move(
+    given: Input<'_>,
+    cpe: &mut [f64],
+    cpp: &mut [f64],
+    inks: &mut [f64],
+) -> Result<Option<FirstMove>, Refusal>
+    ensures { finding (answer_of result) cpe.new cpp.new inks.new ≡ find_of (input_of given.entry) cpe.old cpp.old inks.old }
 {
-    let tiling = match sizes::check_find(given, cpe, cpp, inks) {
-        Ok(tiling) => tiling,
-        Err(refusal) => return DbsFound::from(Err(refusal)),
-    };
-    let first = find_accepted(given, tiling, cpe, cpp, inks);
-    DbsFound::from(Ok(first))
+    let tiling = sizes::check_find(given, cpe, cpp, inks)?;
+    Ok(find_accepted(given, tiling, cpe, cpp, inks))
 }

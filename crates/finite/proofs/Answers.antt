@@ -26,9 +26,9 @@ use Rattle.refine.specs.Refine.{refine_status, refine_accepted, refine_of}
 use Rattle.refine.proofs.Laws.{refine_answers}
 use Rattle.refine.proofs.Promises.{refine_judged}
 use Rattle.perceived.specs.declared.Measured.{Measured}
-use Rattle.measuring.specs.Measuring.{Blur, measured_error}
+use Rattle.measuring.specs.Measuring.{measured_error}
 use Rattle.perceived.specs.Perceived.{measure_status, measure_of}
-use Rattle.measuring.proofs.Laws.{frame-fits}
+use Rattle.measuring.proofs.Laws.{scene_fits, frame-fits}
 use Rattle.perceived.proofs.Laws.{measure_answers}
 use Rattle.finite.specs.Finite.{RunNumbers, RefinedNumbers, MeasuredNumbers}
 use Rattle.finite.proofs.Prepared.{colour_number}
@@ -64,9 +64,6 @@ module _ (I : Input) (passes : ℕ) (cpe cpp : List Float) (counts : List ℕ) (
 
 -- ---- measure
 
-blur_of_lem : (sigma : Float) → Fitting sigma → Blur sigma (gaussian_blur sigma) (blur_radius sigma)
-blur_of_lem sigma f = record { values_are = refl; radius_is = refl; most = f.reach }
-
 measured_error_lem : (I : Input) → judge (input_tests I) ≡ accepted → Number (measured_error I)
 unfolding measured_error
 measured_error_lem I ok =
@@ -74,8 +71,8 @@ measured_error_lem I ok =
     let chroma = fitting_chroma I.params (eye_ok I ok) in
     number
     (perceived_within I.width I.height I.pixels I.indices (ink_values I.palette) _ _ _ _
-    (frame-fits I ok (ink_values I.palette) refl (sigma_px alpha_lum I.params) _ _ (blur_of_lem _ lum))
-    (frame-fits I ok (ink_values I.palette) refl (sigma_px alpha_chroma I.params) _ _ (blur_of_lem _ chroma))
+    (frame-fits I ok (ink_values I.palette) refl (sigma_px alpha_lum I.params) lum.reach)
+    (frame-fits I ok (ink_values I.palette) refl (sigma_px alpha_chroma I.params) chroma.reach)
     (inks_within I.palette) (blur_within (sigma_px alpha_lum I.params) lum) (blur_within (sigma_px alpha_chroma I.params) chroma))
 
 -- an accepted measure
@@ -89,7 +86,7 @@ module _ (I : Input) (e : measure_status (measure_of I) ≡ accepted) where
   pub measure_numbers : MeasuredNumbers I
   measure_numbers = record {
     inks = numbers (ink_values I.palette) (inks_within I.palette);
-    errors = λ x y p q. colour_number (error_within I.width I.height _ (frame-fits I passed (ink_values I.palette) refl (sigma_px alpha_lum I.params) _ _ (blur_of_lem _ (fitting_lum I.params (eye_ok I passed)))).scene (inks_within I.palette) x y p q);
+    errors = λ x y p q. colour_number (error_within I.width I.height _ (scene_fits I passed (ink_values I.palette) refl) (inks_within I.palette) x y p q);
     lum = numbers (gaussian_blur (sigma_px alpha_lum I.params)) (blur_within (sigma_px alpha_lum I.params) (fitting_lum I.params (eye_ok I passed)));
     chroma = numbers (gaussian_blur (sigma_px alpha_chroma I.params)) (blur_within (sigma_px alpha_chroma I.params) (fitting_chroma I.params (eye_ok I passed)));
     error = rw error_is (measured_error_lem I passed);

@@ -1,6 +1,6 @@
 -- The walk over one pixel, on a copy of it and its neighbours, tells its move: where it accepts one, the delta is the cost, as 0.0 and a cost below 0 is that
 -- cost; and a toggle takes one pixel of its ink away, a swap none. Assumes nothing.
-use Prim.Native.Nat.{ℕ, zero, suc, ◌+◌, ◌*◌, ◌≤◌, ◌<◌}
+use Prim.Native.Nat.{ℕ, zero, suc, ◌+◌, ◌*◌, ◌<◌}
 use native.Mathlib.Omega.{arith}
 use native.Mathlib.Nat.{add-zero, one-mul}
 use mathlib.Core.Path.{◌≡◌, refl, sym, ap, ◌∙◌}
@@ -8,8 +8,8 @@ use mathlib.Core.Logic.{◌≢◌}
 use mathlib.Core.Bool.{Bool, true, false, cond, true≢false}
 use mathlib.Core.List.{List, [], ◌∷◌}
 use lib.Dec.{T, eqb}
-use lib.ListN.{length, get_or, set, drop, length-set, drop_of_length-le}
-use lib.Seq.{get_or-set_other, drop-cons}
+use lib.ListN.{length, get_or, set, length-set}
+use lib.Seq.{get_or-set_other}
 use lib.Ieee.{Float, nan, binary64, fits, neg, lt, round, of_bits}
 use lib.Ieee.Fits.{add-fits}
 use borrow.Author.Tests.{eq-eqb, ne_eqb, eqb-false}
@@ -21,7 +21,8 @@ use Rattle.base.proofs.LoopLaws.{up_to_keeps, from_to_none, from_to_more}
 use Rattle.base.proofs.GridLaws.{place_lt, length-crop, cell-crop}
 use Rattle.tiling.specs.Tiling.{image}
 use Rattle.color.specs.Values.{values_at, less_of}
-use Rattle.std.specs.Prelude.{Option, Some, None}
+use Rattle.std.specs.Prelude.{Option, Some, None, count_by}
+use Rattle.std.proofs.lemmas.List.Recursion.{is_sum_by}
 use Rattle.search.specs.declared.Best.{Best}
 use Rattle.search.specs.declared.Site.{Site}
 use Rattle.search.specs.declared.Move.{Move}
@@ -64,24 +65,9 @@ module _ (k : ℕ) where
   count_more l p v h n e = sym (add-zero (count_of k (set l p v))) ∙ (rw (ne_eqb _ _ n, eq-eqb _ _ e) at (count_set l p v h))
 
   -- from place i on
-  count_next : (l : List ℕ) (i : ℕ) → i < length l → count_of k (drop i l) ≡ one (get_or l i 0) + count_of k (drop (i + 1) l)
+  pub count_is : (l : List ℕ) → count_of k l ≡ count_by (λ i. eqb i k) l
   unfolding count_of
-  count_next l i h =
-      let next : suc i ≡ i + 1 = omega arith in
-      ap (count_of k) (drop-cons l i 0 h) ∙ ap (λ (j : ℕ). one (get_or l i 0) + count_of k (drop j l)) next
-
-  pub count_start : (l : List ℕ) → 0 + count_of k (drop 0 l) ≡ count_of k l
-  count_start l = omega arith
-
-  pub count_hit : (l : List ℕ) (i n : ℕ) → i < length l → n + count_of k (drop i l) ≡ count_of k l → get_or l i 0 ≡ k → n + 1 + count_of k (drop (i + 1) l) ≡ count_of k l
-  count_hit l i n h e o = omega (arith, rw (eq-eqb _ _ o) at (count_next l i h), e)
-
-  pub count_miss : (l : List ℕ) (i n : ℕ) → i < length l → n + count_of k (drop i l) ≡ count_of k l → get_or l i 0 ≢ k → n + count_of k (drop (i + 1) l) ≡ count_of k l
-  count_miss l i n h e o = omega (arith, rw (ne_eqb _ _ o) at (count_next l i h), e)
-
-  pub count_end : (l : List ℕ) (i n : ℕ) → length l ≤ i → n + count_of k (drop i l) ≡ count_of k l → n ≡ count_of k l
-  unfolding count_of
-  count_end l i n h e = let none : count_of k (drop i l) ≡ 0 = ap (count_of k) (drop_of_length-le l h) in omega (arith, none, e)
+  count_is l = is_sum_by (count_of k) one refl (λ i l. refl) l
 
 -- ---- the cost of a best move is a float of 64 bits, and below 0 where the pixel moves
 

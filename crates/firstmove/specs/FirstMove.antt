@@ -14,6 +14,11 @@ use Rattle.firstmove.specs.declared.FirstMove.{FirstMove}
 use Rattle.firstmove.specs.declared.Kind.{Kind}
 use Rattle.firstmove.specs.declared.Kind.TheVariants as kinds
 
+-- kind 0 is a toggle, 1 a swap
+abbrev pub kind_number : Kind → ℕ
+kind_number kinds.Toggle = 0
+kind_number kinds.Swap = 1
+
 -- ---- one pixel
 
 abbrev pub first_move : ℕ → Kind → Float → FirstMove

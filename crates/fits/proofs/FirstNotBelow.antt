@@ -1,13 +1,16 @@
 -- `first_not_below` is the first place whose number is not below n: every number before it is, by induction on the list. Assumes nothing.
-use Prim.Native.Nat.{ℕ, zero, suc, ◌≤◌, ◌<◌}
+use Prim.Native.Nat.{ℕ, zero, suc, ◌+◌, ◌≤◌, ◌<◌}
 use mathlib.Core.Path.{◌≡◌, refl}
-use mathlib.Core.Bool.{Bool, true, false}
+use mathlib.Core.Bool.{Bool, true, false, cond, not}
 use mathlib.Core.List.{List, [], ◌∷◌}
 use native.Mathlib.Omega.{arith}
 use borrow.Author.Tests.{ltb-true, ltb-false, lt-ltb, le-ltb}
 use lib.Dec.{ltb}
 use lib.ListN.{length, get_or}
-use Rattle.fits.specs.Fits.{first_not_below}
+use Rattle.std.proofs.Common.{None}
+use Rattle.std.specs.List.{position_or_len}
+use Rattle.std.proofs.lemmas.List.Recursion.{is_position_or_len}
+use Rattle.fits.specs.Fits.{before, first_not_below}
 
 -- of a list that starts with k
 here : (n k : ℕ) (ks : List ℕ) → n ≤ k → first_not_below n (k ∷ ks) ≡ 0
@@ -40,25 +43,18 @@ first_is n (k ∷ ks) = go (ltb k n) refl (first_is n ks)
         earlier (suc i) h = f.before i (omega arith)
     go false e f = rw (here n k ks (ltb-false k n e)) (record { bound = omega arith; before = λ i h. omega arith; there = λ h. ltb-false k n e })
 
--- ---- a search that has come to place i without finding one
+-- ---- as the library searches a list
 
-module _ (n : ℕ) (l : List ℕ) (i : ℕ) (inside : i < length l) (none : i ≤ first_not_below n l) where
-  pub found : n ≤ get_or l i 0 → first_not_below n l ≡ i
-  found k = go (ltb i (first_not_below n l)) refl
-    where
-      go : (b : Bool) → ltb i (first_not_below n l) ≡ b → first_not_below n l ≡ i
-      go true e = absurd (omega (arith, (first_is n l).before i (ltb-true i (first_not_below n l) e)))
-      go false e = omega (arith, ltb-false i (first_not_below n l) e)
+abbrev pub not_below : ℕ → ℕ → Bool
+not_below n k = not (ltb k n)
 
-  pub goes_on : get_or l i 0 < n → i < first_not_below n l
-  goes_on k = go (ltb i (first_not_below n l)) refl
-    where
-      go : (b : Bool) → ltb i (first_not_below n l) ≡ b → i < first_not_below n l
-      go true e = ltb-true i (first_not_below n l) e
-      go false e =
-          let same : first_not_below n l ≡ i = omega (arith, ltb-false i (first_not_below n l) e) in
-          let high : n ≤ get_or l i 0 = rw same at ((first_is n l).there (omega arith)) in
-          absurd (omega arith)
+pub first_place : (n : ℕ) (l : List ℕ) → first_not_below n l ≡ position_or_len (not_below n) l
+unfolding first_not_below
+first_place n l = is_position_or_len (first_not_below n) (not_below n) refl (λ k ks. turn (ltb k n) (first_not_below n ks)) l
+  where
+    turn : (b : Bool) (p : ℕ) → cond b (suc p) 0 ≡ cond (not b) 0 (1 + p)
+    turn true p = omega arith
+    turn false p = refl
 
 -- ---- the test that there is one passes exactly where every number is below n
 
@@ -74,5 +70,6 @@ none_of n l all = go (ltb (first_not_below n l) (length l)) refl
         let p = ltb-true (first_not_below n l) (length l) e in
         absurd (omega (arith, all (first_not_below n l) p, (first_is n l).there p))
 
-pub none_first : (n : ℕ) (l : List ℕ) → ((i : ℕ) → i < length l → get_or l i 0 < n) → first_not_below n l ≡ length l
-none_first n l all = omega (arith, (first_is n l).bound, ltb-false (first_not_below n l) (length l) (none_of n l all))
+pub no_place : (n : ℕ) (l : List ℕ) → ((i : ℕ) → i < length l → get_or l i 0 < n) → before (length l) (first_not_below n l) ≡ None
+unfolding before
+no_place n l all = rw (none_of n l all)

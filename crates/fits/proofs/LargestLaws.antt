@@ -7,9 +7,10 @@ use native.Mathlib.Omega.{arith}
 use native.Mathlib.Numerals.{add-one}
 use lib.ListN.{length, get_or, take, drop, drop_of_length-le, length-drop}
 use lib.Seq.{drop-cons, drop-drop, take_all}
-use Rattle.fits.specs.Fits.{first_not_below}
+use Rattle.std.proofs.Common.{None}
+use Rattle.fits.specs.Fits.{before, first_not_below}
 use Rattle.fits.specs.Folds.{largest_of, largest_of_four}
-use Rattle.fits.proofs.FirstNotBelow.{none_first}
+use Rattle.fits.proofs.FirstNotBelow.{no_place}
 
 most : (l : List ℕ) (i : ℕ) → i < length l → get_or l i 0 ≤ largest_of l
 unfolding largest_of
@@ -17,9 +18,9 @@ most [] i h = absurd (omega arith)
 most (k ∷ ks) zero h = omega arith
 most (k ∷ ks) (suc i) h = omega (arith, most ks i (omega arith))
 
--- where the largest is below n, the first that is not is none
-pub none_found : (n : ℕ) (l : List ℕ) → largest_of l < n → first_not_below n l ≡ length l
-none_found n l h = none_first n l (λ i inside. omega (arith, most l i inside))
+-- where the largest is below n, there is none that is not
+pub none_found : (n : ℕ) (l : List ℕ) → largest_of l < n → before (length l) (first_not_below n l) ≡ None
+none_found n l h = no_place n l (λ i inside. omega (arith, most l i inside))
 
 -- the number at a place, and those behind it
 here : (l : List ℕ) (i : ℕ) → i < length l → largest_of (drop i l) ≡ max (get_or l i 0) (largest_of (drop (i + 1) l))

@@ -1,3 +1,4 @@
 pub mod Limits
 pub mod FirstNotBelow
 mod LargestLaws
+pub mod Places

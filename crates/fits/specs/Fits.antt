@@ -1,6 +1,6 @@
 -- The limits of document 01 as tests of single values: a size, a mask, a palette, the first index that names no ink and the first byte of a mask above 1. The lists of tests that cite them
 -- are those of `input` and `job`.
-use Rattle.std.specs.Prelude.{ℕ, suc, ◌/◌, ◌%◌, Bool, cond, ◌&&◌, ◌||◌, List, [], ◌∷◌, leb, ltb, eqb}
+use Rattle.std.specs.Prelude.{ℕ, suc, ◌/◌, ◌%◌, Bool, cond, ◌&&◌, ◌||◌, List, [], ◌∷◌, leb, ltb, eqb, Option, Some, None}
 use Rattle.base.specs.Limits.{max_side, max_inks}
 
 abbrev pub is_within : ℕ → ℕ → ℕ → Bool
@@ -30,3 +30,8 @@ first_unnamed inks indices = first_not_below inks indices
 -- 'a mask byte is 0 or 1' (document 02, F-2): the place of the first byte above 1, or the length
 abbrev pub first_above_one : List ℕ → ℕ
 first_above_one pinned = first_not_below 2 pinned
+
+-- ---- a place or the length n of its list as code has it: the place, or none
+
+unfoldable pub before : ℕ → ℕ → Option ℕ
+before n place = cond (ltb place n) (Some place) None

@@ -3,7 +3,7 @@
 #![tactic(auto)]
 
 ghost use Rattle.std.specs.Prelude.{◌≡◌, max, ◌≤◌, ◌<◌, length};
-ghost use Rattle.fits.specs.Fits.{is_within, size_fits, mask_fits, palette_fits, first_not_below, first_unnamed, first_above_one};
+ghost use Rattle.fits.specs.Fits.{is_within, size_fits, mask_fits, palette_fits, before, first_not_below, first_unnamed, first_above_one};
 ghost use Rattle.fits.specs.Folds.{largest_of, largest_of_four};
 
 use base::{Index, MAX_INKS, MAX_SIDE};
@@ -11,7 +11,7 @@ use base::{Index, MAX_INKS, MAX_SIDE};
 pub fn is_within(low: u64, x: u64, high: u64) -> bool
     ensures { result ≡ is_within low x high }
 {
-    low <= x && x <= high
+    (low..=high).contains(&x)
 }
 
 // A width of 1 to 4,096 and a height of 0 to 4,096.
@@ -22,17 +22,17 @@ pub fn is_size(width: u64, height: u64) -> bool
 }
 
 // No mask, or a byte for each of n pixels.
-pub fn is_mask(pinned_len: usize, n: usize) -> bool
-    ensures { result ≡ mask_fits pinned_len n }
+pub fn is_mask(pinned: &[u8], n: usize) -> bool
+    ensures { result ≡ mask_fits (length pinned.now) n }
 {
-    pinned_len == 0 || pinned_len == n
+    pinned.is_empty() || pinned.len() == n
 }
 
 // 3 bytes for each of 1 to 256 inks.
-pub fn is_palette(palette_len: usize) -> bool
-    ensures { result ≡ palette_fits palette_len }
+pub fn is_palette(palette: &[u8]) -> bool
+    ensures { result ≡ palette_fits (length palette.now) }
 {
-    palette_len % 3 == 0 && is_within(1, palette_len as u64 / 3, MAX_INKS as u64)
+    palette.len() % 3 == 0 && is_within(1, palette.len() as u64 / 3, MAX_INKS as u64)
 }
 
 // The largest of the bytes, 0 of none.
@@ -79,38 +79,26 @@ fn largest_by_quarters(bytes: &[u8]) -> u8
     quarters.max(largest(&bytes[d..]))
 }
 
-// The place of the first byte that is not below n, or the length, byte by byte.
-fn place_not_below(bytes: &[u8], n: usize) -> usize
-    ensures { result ≡ first_not_below n bytes.now }
-{
-    for (i, b) in bytes.iter().enumerate() {
-        if usize::from(*b) >= n {
-            return i;
-        }
-    }
-    bytes.len()
-}
-
-// The same. Most lists have none: the place is searched where the largest byte is not below n.
-fn first_not_below(bytes: &[u8], n: usize) -> usize
-    ensures { result ≡ first_not_below n bytes.now }
+// The place of the first byte that is not below n. Most lists have none: it is searched where the largest byte is not below n.
+fn first_not_below(bytes: &[u8], n: usize) -> Option<usize>
+    ensures { result ≡ before (length bytes.now) (first_not_below n bytes.now) }
 {
     if usize::from(largest_by_quarters(bytes)) < n {
-        return bytes.len();
+        return None;
     }
-    place_not_below(bytes, n)
+    bytes.iter().position(|b| usize::from(*b) >= n)
 }
 
-// The place of the first index that names none of so many inks, or the length.
-pub fn first_unnamed(indices: &[Index], inks: usize) -> usize
-    ensures { result ≡ first_unnamed inks indices.now }
+// The place of the first index that names none of so many inks.
+pub fn first_unnamed(indices: &[Index], inks: usize) -> Option<usize>
+    ensures { result ≡ before (length indices.now) (first_unnamed inks indices.now) }
 {
     first_not_below(indices, inks)
 }
 
-// The place of the first byte of a mask above 1, or the length.
-pub fn first_above_one(pinned: &[u8]) -> usize
-    ensures { result ≡ first_above_one pinned.now }
+// The place of the first byte of a mask above 1.
+pub fn first_above_one(pinned: &[u8]) -> Option<usize>
+    ensures { result ≡ before (length pinned.now) (first_above_one pinned.now) }
 {
     first_not_below(pinned, 2)
 }

@@ -1,22 +1,16 @@
 -- What dbs_find_move answers, case by case (document 02, F-1).
-use Rattle.std.specs.Prelude.{Option, Some, None, Result, Ok, Err, ℕ}
+use Rattle.std.specs.Prelude.{Option, Some, None, Result, Ok, Err}
 use Rattle.base.specs.declared.Status.{Status}
 use Rattle.base.specs.declared.Refusal.{Refusal}
 use Rattle.base.specs.Answer.{number_and_place}
 use Rattle.base.specs.F64.{f0}
 use Rattle.firstmove.specs.declared.FirstMove.{FirstMove}
-use Rattle.firstmove.specs.declared.Kind.{Kind}
-use Rattle.firstmove.specs.declared.Kind.TheVariants.{Toggle, Swap}
+use Rattle.firstmove.specs.FirstMove.{kind_number}
 use Rattle.found.specs.declared.DbsFound.{DbsFound}
 
 -- 'what an answer reports here or later is zero on a refusal'
 abbrev pub refused_of : Status → DbsFound
 refused_of s = record { number = s.number; place = s.place; found = 0; pixel = 0; kind = 0; cost = f0 }
-
--- kind 0 is a toggle, 1 a swap
-abbrev pub kind_number : Kind → ℕ
-kind_number Toggle = 0
-kind_number Swap = 1
 
 -- an accepted call that has found a move: its pixel, kind and cost; 'or say that there is none': all zero
 unfoldable pub searched_of : Option FirstMove → DbsFound

@@ -2,15 +2,10 @@
 #![tactic(auto)]
 
 ghost use Rattle.std.specs.Prelude.{◌≡◌};
-ghost use Rattle.found.specs.Found.{kind_number, searched_of, answer_of};
+ghost use Rattle.found.specs.Found.{searched_of, answer_of};
 
 use base::{Refusal, Status};
-use firstmove::{FirstMove, Kind};
-
-// Kinds of a move.
-const TOGGLE: u64 = 0;
-
-const SWAP: u64 = 1;
+use firstmove::FirstMove;
 
 // Kept: C reads numbers here, so that it is no `Result` of an `Option`, and a kind no enum.
 #[repr(C)]
@@ -26,15 +21,6 @@ pub struct DbsFound {
     pub cost: f64,
 }
 
-fn kind_number(kind: Kind) -> u64
-    ensures { result ≡ kind_number kind }
-{
-    match kind {
-        Kind::Toggle => TOGGLE,
-        Kind::Swap => SWAP,
-    }
-}
-
 impl From<Option<FirstMove>> for DbsFound {
     ghost from_gives = { λ f a. a ≡ searched_of f };
 
@@ -43,7 +29,7 @@ impl From<Option<FirstMove>> for DbsFound {
             Some(m) => DbsFound {
                 found: 1,
                 pixel: m.pixel as u64,
-                kind: kind_number(m.kind),
+                kind: u64::from(m.kind),
                 cost: m.cost,
                 ..DbsFound::default()
             },

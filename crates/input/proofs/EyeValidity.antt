@@ -67,7 +67,7 @@ at_most a b h = go (ltb a b) refl
 
 -- a width that is not below 0.05 and no NaN; the f64 0.05 is 3602879701896397 / 2^56
 least : (x : Float) → Narrow x → lt x sigma_min ≡ false → T (le sigma_min x)
-unfolding Narrow lt le mul of_bits
+unfolding lt le mul of_bits
 least nan h e = absurd h
 least (inf true) h e = absurd (true≢false e)
 least (inf false) h e = tt
@@ -77,7 +77,7 @@ least (fin false m d) h e = at_most (3602879701896397 * down d) (m * up d * 2 ^ 
 -- ---- both ways
 
 pub eye_valid : (p : DbsParams) → Passes (eye_tests p) → ValidEye p
-unfolding Passes eye_tests Narrow
+unfolding Passes eye_tests
 eye_valid p t = let n = narrow_both p t in record {
   ppi_fits = (finite-positive_iff p.ppi).0 t.0;
   distance_fits = (finite-positive_iff p.viewing_distance_cm).0 t.1.0;

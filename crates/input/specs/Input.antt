@@ -44,15 +44,18 @@ picture_test n pixels = test (not (eqb pixels (3 * n))) 2 0
 abbrev pub mask_test : List ℕ → Test
 mask_test pinned = let place = first_above_one pinned in test (ltb place (length pinned)) 17 place
 
+-- row 6, of indices of so many inks: 'an index names no ink', 'first such, from 0'
+abbrev pub index_test : ℕ → List ℕ → Test
+index_test inks indices = let place = first_unnamed inks indices in test (ltb place (length indices)) 6 place
+
 -- rows 3, 4, 17, 5 and 6, of the halftone, for an image of n pixels: the length of the palette, the indices, and the mask; pinned pixels have an ink too
 unfoldable pub halftone_tests : ℕ → ℕ → List ℕ → List ℕ → List Test
 halftone_tests n palette indices pinned =
-    let place = first_unnamed (palette / 3) indices in
     test (not (eqb (length indices) n)) 3 0  -- 'indices not n'
     ∷ test (not (mask_fits (length pinned) n)) 4 0  -- 'mask neither 0 nor n'
     ∷ mask_test pinned
     ∷ test (not (palette_fits palette)) 5 0  -- 'palette not 3 × (1–256) bytes'
-    ∷ test (ltb place (length indices)) 6 place  -- 'an index names no ink', 'first such, from 0'
+    ∷ index_test (palette / 3) indices
     ∷ []
 
 -- rows 1 to 6 with 17, of a size, the lengths of the pixels and the palette, the indices and the mask

@@ -4,11 +4,12 @@
 // (specs/Valid.antt, proofs/Validity.antt).
 #![tactic(auto)]
 
-ghost use Rattle.std.specs.Prelude.{◌≡◌, true, false, IfOk, IfErr, length};
-ghost use Rattle.base.specs.Refusal.{judge};
+ghost use Rattle.std.specs.Prelude.{◌≡◌, true, false, not, [], ◌∷◌, IfOk, IfErr, length};
+ghost use Rattle.base.specs.Refusal.{test, judge};
 ghost use Rattle.base.specs.Answer.{number_of, status_of, Tested};
 ghost use Rattle.eye.specs.Eye.{eye_of};
-ghost use Rattle.input.specs.Input.{halftone_tests, image_tests, input_tests, length_test};
+ghost use Rattle.fits.specs.Fits.{mask_fits};
+ghost use Rattle.input.specs.Input.{mask_test, index_test, halftone_tests, image_tests, input_tests, length_test};
 
 use base::{Buffer, Index, Refusal, refuse_if};
 use eye::{DbsParams, Eye};
@@ -29,17 +30,13 @@ impl<'a> Input<'a> {
     ghost use Rattle.input.specs.Inputs.{input_of};
 
     // Refusals 3, 4, 17, 5 and 6, where the image has n pixels.
-    #[tactic(auto, unfolding(crate::specs::Input::halftone_tests, base::specs::Refusal::judge))]
     fn check_halftone(self, n: usize) -> Result<(), Refusal>
         ensures { status_of result ≡ judge (halftone_tests n (length self.entry.palette.now) self.entry.indices.now self.entry.pinned.now) }
     {
         refuse_if(self.indices.len() != n, Refusal::Indices)?;
-        refuse_if(!fits::is_mask(self.pinned.len(), n), Refusal::Mask)?;
-        let above = fits::first_above_one(self.pinned);
-        refuse_if(above < self.pinned.len(), Refusal::MaskByte(above as u64))?;
-        refuse_if(!fits::is_palette(self.palette.len()), Refusal::Palette)?;
-        let unnamed = fits::first_unnamed(self.indices, self.palette.len() / 3);
-        refuse_if(unnamed < self.indices.len(), Refusal::Index(unnamed as u64))
+        check_mask(self.pinned, n)?;
+        refuse_if(!fits::is_palette(self.palette), Refusal::Palette)?;
+        check_indices(self.indices, self.palette.len() / 3)
     }
 
     // Refusals 1 to 6, with 17 after 4.
@@ -68,4 +65,27 @@ pub fn check_length(buffer: Buffer, len: usize, wanted: usize) -> Result<(), Ref
     ensures fails { IfErr result (λ e. ((length_test (number_of buffer) len wanted).fails ≡ true) × (e ≡ Refusal.Length buffer)) }
 {
     refuse_if(len != wanted, Refusal::Length(buffer))
+}
+
+// Refusals 4 and 17 of the mask of an image of n pixels.
+#[tactic(auto, using(fits::proofs::Places::place_of, fits::proofs::Places::none_before), unfolding(base::specs::Refusal::judge))]
+pub fn check_mask(pinned: &[u8], n: usize) -> Result<(), Refusal>
+    ensures { status_of result ≡ judge (test (not (mask_fits (length pinned.now) n)) 4 0 ∷ mask_test pinned.now ∷ []) }
+{
+    refuse_if(!fits::is_mask(pinned, n), Refusal::Mask)?;
+    if let Some(place) = fits::first_above_one(pinned) {
+        return Err(Refusal::MaskByte(place as u64));
+    }
+    Ok(())
+}
+
+// Refusal 6 of indices that are each to name one of so many inks.
+#[tactic(auto, using(fits::proofs::Places::place_of, fits::proofs::Places::none_before), unfolding(base::specs::Refusal::judge))]
+pub fn check_indices(indices: &[Index], inks: usize) -> Result<(), Refusal>
+    ensures { status_of result ≡ judge (index_test inks indices.now ∷ []) }
+{
+    if let Some(place) = fits::first_unnamed(indices, inks) {
+        return Err(Refusal::Index(place as u64));
+    }
+    Ok(())
 }

@@ -5,8 +5,8 @@ use Rattle.base.specs.Grid.{area}
 use Rattle.base.specs.Limits.{cpp_length}
 use Rattle.base.specs.Refusal.{Test, test, judge, is_accepted}
 use Rattle.tiling.specs.Tiling.{tiles, region}
-use Rattle.fits.specs.Fits.{mask_fits, first_unnamed}
-use Rattle.input.specs.Input.{mask_test, length_test}
+use Rattle.fits.specs.Fits.{mask_fits}
+use Rattle.input.specs.Input.{mask_test, index_test, length_test}
 use Rattle.tile.specs.Tile.{State, state, no_progress}
 use Rattle.job.specs.declared.JobRecord.{JobRecord}
 use Rattle.job.specs.Record.{pixels_of, job_shared, record_tests}
@@ -22,7 +22,7 @@ worked status made = record { status = status; made = made }
 
 -- row 6 of a copy: pinned pixels have an ink too
 unfoldable pub copy_test : JobRecord → List ℕ → Test
-copy_test r indices = let place = first_unnamed r.plan.inks indices in test (ltb place (length indices)) 6 place
+copy_test r indices = index_test r.plan.inks indices
 
 -- rows 12, 13 ('no such tile'), 4, 17, 11 and 6, of a record, a tile, the whole image's mask, the kernels, the copy and the ink values
 unfoldable pub work_tests : JobRecord → ℕ → List ℕ → List Float → Pixels → List Float → List Test

@@ -9,18 +9,14 @@ use lib.Ieee.{Float, nan}
 use Rattle.base.specs.Limits.{cpp_chroma, cpp_length}
 use Rattle.base.specs.Loop.{overwrite}
 use Rattle.base.specs.Refusal.{judge, accepted}
-use Rattle.base.proofs.Bounds.{product_le}
 use Rattle.base.proofs.TableLaws.{length-table, length-overwrite}
 use Rattle.eye.specs.declared.DbsParams.{DbsParams}
 use Rattle.eye.specs.Constants.{alpha_lum, alpha_chroma}
 use Rattle.eye.specs.Eye.{sigma_px, blur_radius, kernel_radius, KernelRadius, eye_tests}
 use Rattle.eye.proofs.EyeLaws.{radii_fit, kernel_fits}
-use Rattle.blur.specs.Blur.{kernel_side, values}
+use Rattle.blur.specs.Blur.{values}
 use Rattle.kernel.specs.Kernel.{autocorrelation, kernel_of, lum_base, chroma_base, eye_kernels}
 use Rattle.kernel.proofs.OverwriteLaws.{overwrite_in, overwrite_before}
-
-pub kernel_size : (r : ℕ) → r ≤ 16 → values (2 * r) ≤ cpp_chroma
-kernel_size r h = let s : kernel_side (2 * r) ≤ 65 = omega arith in product_le (kernel_side (2 * r)) (kernel_side (2 * r)) 65 65 s s
 
 pub length_kernel : (sigma : Float) → length (kernel_of sigma) ≡ values (2 * blur_radius sigma)
 unfolding kernel_of autocorrelation

@@ -3,10 +3,9 @@
 use Prim.Native.Nat.{ℕ, ◌+◌, ◌-◌, ◌*◌, ◌≤◌, ◌<◌}
 use native.Mathlib.Omega.{arith}
 use Rattle.base.proofs.Bounds.{index_lt}
-use Rattle.blur.specs.Blur.{kernel_side}
+use Rattle.blur.specs.Blur.{kernel_side, values}
 use Rattle.kernel.specs.Kernel.{overlap_from, overlap_to}
 use Rattle.kernel.specs.Ready.{RowMeets}
-use Rattle.blur.proofs.BlurLaws.{blur_size}
 
 pub overlap_some : (r o : ℕ) → o < kernel_side (2 * r) → overlap_from r o ≤ overlap_to r o
 overlap_some r o h = omega arith
@@ -19,28 +18,15 @@ pub record Overlap (r o u : ℕ) : Type 0 where
 overlaps : (r o u : ℕ) → overlap_from r o ≤ u → u < overlap_to r o → Overlap r o u
 overlaps r o u f t = record { here = omega arith; low = omega arith; there = omega arith }
 
+-- what a term reads of a blur of so many values
 pub record Term (len r i j x y : ℕ) : Type 0 where
-  pub column : Overlap r i x
-  pub row : Overlap r j y
   pub here : y * kernel_side r + x < len
   pub there : (y + j - 2 * r) * kernel_side r + (x + i - 2 * r) < len
-  pub few : len ≤ 1089
-  pub radius : r ≤ 16
-  pub i_small : i < 65
-  pub j_small : j < 65
 
-pub term : (len r i j x y : ℕ) → RowMeets len r i j y → overlap_from r i ≤ x → x < overlap_to r i → Term len r i j x y
-term len r i j x y h f t =
-    let o = h.offset in
+pub term : (len r i j x y : ℕ) → values r ≤ len → RowMeets r i j y → overlap_from r i ≤ x → x < overlap_to r i → Term len r i j x y
+term len r i j x y room h f t =
     let a = overlaps r i x f t in
     let b = overlaps r j y h.from h.to in
-    record {
-      column = a;
-      row = b;
-      here = rw o.square (index_lt _ _ _ _ a.here b.here);
-      there = rw o.square (index_lt _ _ _ _ a.there b.there);
-      few = rw o.square (blur_size r o.radius);
-      radius = o.radius;
-      i_small = omega (arith, o);
-      j_small = omega (arith, o);
-    }
+    let here : y * kernel_side r + x < values r = index_lt _ _ _ _ a.here b.here in
+    let there : (y + j - 2 * r) * kernel_side r + (x + i - 2 * r) < values r = index_lt _ _ _ _ a.there b.there in
+    record { here = omega arith; there = omega arith }

@@ -4,7 +4,7 @@ use mathlib.Core.Path.{◌≡◌, sym, ap, ◌∙◌}
 use mathlib.Core.List.{List, ◌++◌}
 use native.Mathlib.Nat.{le-add_right}
 use native.Mathlib.Omega.{arith}
-use lib.ListN.{length, get_or, take, drop, length-drop, get_or-append}
+use lib.ListN.{length, get_or, take, drop, get_or-append}
 use lib.Seq.{length-take-le, get_or-append-add, get_or-take}
 use borrow.Rule.Slice.PartMut.{put_mid, Post-is}
 use Rattle.base.specs.Loop.{overwrite}
@@ -25,9 +25,6 @@ module _ {A : Type 0} (b : ℕ) (l s : List A) where
       get_or-append (take b s) _ d i (omega (arith, e)) ∙ get_or-take b s i d k
 
 -- ---- a part that was lent
-
-pub part_length : {A : Type 0} (s : List A) (b n : ℕ) → b + n ≤ length s → length (take (b + n - b) (drop b s)) ≡ n
-part_length s b n h = let e : b + n - b ≡ n = omega arith in rw e (length-take-le n (drop b s) (omega (arith, length-drop b s)))
 
 pub part_overwritten : {A : Type 0} (b n : ℕ) (s l : List A) → length l ≡ n → put_mid b (b + n - b) s l ≡ overwrite b l s
 unfolding overwrite

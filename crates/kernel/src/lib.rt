@@ -5,16 +5,18 @@ ghost use Rattle.std.specs.Prelude.{◌≡◌, ◌+◌, ◌*◌, ◌≤◌, ◌<
 ghost use Rattle.base.specs.Limits.{cpp_chroma, cpp_length};
 ghost use Rattle.base.specs.Loop.{overwrite};
 ghost use Rattle.base.specs.Refusal.{judge, accepted};
-ghost use Rattle.eye.specs.Eye.{Narrow, blur_radius, eye_tests};
-ghost use Rattle.blur.specs.Blur.{kernel_side, values, gaussian_line, sum_of, blur_of, gaussian_blur};
+ghost use Rattle.eye.specs.Eye.{eye_tests};
+ghost use Rattle.blur.specs.Blur.{kernel_side, values};
 ghost use Rattle.kernel.specs.Kernel.{overlap_from, overlap_to, row_sum, correlation_at, autocorrelation, kernel_of, eye_kernels};
 ghost use Rattle.kernel.specs.Ready.{Offset, RowMeets};
 
 use base::CPP_CHROMA;
-use eye::{ALPHA_CHROMA, ALPHA_LUM, DbsParams};
+use blur::{Blur, kernel_side, value_count};
+use eye::{DbsParams, Width};
 
 // Displaced by d = o - 2r, a blur of radius r overlaps itself in the columns (or rows) u for which
 // u + d is one too. The first of them ..
+// Kept: `r ≤ 16` of a bare radius, here and where a line is filled: a `Blur` has the fact, and is not made yet or is not read here.
 fn overlap_from(r: usize, o: usize) -> usize
     requires { r ≤ 16 }
     ensures { result ≡ overlap_from r o }
@@ -27,81 +29,59 @@ fn overlap_to(r: usize, o: usize) -> usize
     requires { (r ≤ 16) × (o < kernel_side (2 * r)) }
     ensures { result ≡ overlap_to r o }
 {
-    (2 * r + 1).min(4 * r + 1 - o)
+    kernel_side(r).min(kernel_side(2 * r) - o)
 }
 
 // Adds to `from` the terms of c(d) in row y of p; d stands in column i, row j of c.
-fn correlate_row(p: &[f64], r: usize, i: usize, j: usize, y: usize, from: f64) -> f64
-    requires { RowMeets (length p.now) r i j y }
-    ensures { result ≡ row_sum p.now r i j y from }
+fn correlate_row(p: Blur<'_>, i: usize, j: usize, y: usize, from: f64) -> f64
+    requires { RowMeets p.radius i j y }
+    ensures { result ≡ row_sum p.entry.values.now p.entry.radius i j y from }
 {
-    let size = 2 * r + 1;
+    let r = p.radius;
+    let size = kernel_side(r);
     let end = overlap_to(r, i);
     let mut s = from;
     for x in overlap_from(r, i)..end {
         let here = y * size + x;
         let there = (y + j - 2 * r) * size + (x + i - 2 * r);
-        s += p[here] * p[there];
+        s += p.values[here] * p.values[there];
     }
     s
 }
 
 // c(d) for the d in column i, row j of c.
-fn correlation(p: &[f64], r: usize, i: usize, j: usize) -> f64
-    requires { Offset (length p.now) r i j }
-    ensures { result ≡ correlation_at p.now r i j }
+fn correlation(p: Blur<'_>, i: usize, j: usize) -> f64
+    requires { Offset p.radius i j }
+    ensures { result ≡ correlation_at p.entry.values.now p.entry.radius i j }
 {
-    let end = overlap_to(r, j);
+    let end = overlap_to(p.radius, j);
     let mut s = 0.0;
-    for y in overlap_from(r, j)..end {
-        s = correlate_row(p, r, i, j, y, s);
+    for y in overlap_from(p.radius, j)..end {
+        s = correlate_row(p, i, j, y, s);
     }
     s
 }
 
-// c(d) = Σ_u p(u)·p(u + d), with twice the radius r of p.
-pub fn autocorrelate(p: &[f64], r: usize, c: &mut [f64])
-    requires { (r ≤ 16) × (length p.now ≡ values r) × (length c.old ≡ values (2 * r)) }
-    ensures { c.new ≡ autocorrelation p.now r }
+// c(d) = Σ_u p(u)·p(u + d), with twice the radius of p.
+#[tactic(auto, using(blur::proofs::SquareLaws::in_square))]
+pub fn autocorrelate(p: Blur<'_>, c: &mut [f64])
+    requires { length c.old ≡ values (2 * p.radius) }
+    ensures { c.new ≡ autocorrelation p.entry.values.now p.entry.radius }
 {
-    let radius = 2 * r;
-    let size = 2 * radius + 1;
+    let size = kernel_side(2 * p.radius);
     for (k, value) in c.iter_mut().enumerate() {
-        *value = correlation(p, r, k % size, k / size);
+        *value = correlation(p, k % size, k / size);
     }
 }
 
-// The autocorrelation kernel of a blur width; p is room for the blur.
-fn kernel_into(sigma: f64, r: usize, p: &mut [f64], c: &mut [f64])
-    requires narrow { Narrow sigma × (r ≡ blur_radius sigma) }
-    requires r_bound { (r ≤ 16) × (length p.old ≡ values r) × (length c.old ≡ values (2 * r)) }
-    ensures { c.new ≡ kernel_of sigma }
+// The autocorrelation kernel of a blur width into the store, from base on; `room` is for the blur.
+fn place_kernel(width: Width, room: &mut [f64; 1089], cpp: &mut [f64], base: usize)
+    requires { base + cpp_chroma ≤ length cpp.old }
+    ensures { cpp.new ≡ overwrite base (kernel_of width.sigma) cpp.old }
 {
-    blur::gaussian_blur(sigma, p);
-    autocorrelate(p, r, c);
-}
-
-// The same into the store, from base on.
-fn place_kernel(sigma: f64, p: &mut [f64], cpp: &mut [f64], base: usize)
-    requires { Narrow sigma × (length p.old ≡ 1089) × (base + cpp_chroma ≤ length cpp.old) }
-    ensures { cpp.new ≡ overwrite base (kernel_of sigma) cpp.old }
-{
-    let r = eye::blur_radius(sigma);
-    let blur_size = 2 * r + 1;
-    let blur_end = blur_size * blur_size;
-    let radius = 2 * r;
-    let cpp_size = 2 * radius + 1;
-    let cpp_end = base + cpp_size * cpp_size;
-    kernel_into(sigma, r, &mut p[..blur_end], &mut cpp[base..cpp_end]);
-}
-
-// Both kernels; p is room for the larger blur.
-fn kernels_with(params: DbsParams, p: &mut [f64], cpp: &mut [f64])
-    requires { (judge (eye_tests params) ≡ accepted) × (length p.old ≡ 1089) × (length cpp.old ≡ cpp_length) }
-    ensures { cpp.new ≡ eye_kernels params cpp.old }
-{
-    place_kernel(eye::eye_sigma_px(ALPHA_LUM, params), p, cpp, 0);
-    place_kernel(eye::eye_sigma_px(ALPHA_CHROMA, params), p, cpp, CPP_CHROMA);
+    let blur = blur::gaussian_blur(width, room);
+    let end = base + value_count(2 * blur.radius);
+    autocorrelate(blur, &mut cpp[base..end]);
 }
 
 // Both autocorrelation kernels of an accepted eye into the kernel store; its other cells stay.
@@ -109,6 +89,8 @@ pub fn eye_kernels(params: DbsParams, cpp: &mut [f64])
     requires { (judge (eye_tests params) ≡ accepted) × (length cpp.old ≡ cpp_length) }
     ensures { cpp.new ≡ eye_kernels params cpp.old }
 {
-    let mut p = [0.0f64; 1089];
-    kernels_with(params, &mut p, cpp);
+    let mut room = [0.0f64; 1089];
+    let widths = params.widths();
+    place_kernel(widths.lum, &mut room, cpp, 0);
+    place_kernel(widths.chroma, &mut room, cpp, CPP_CHROMA);
 }

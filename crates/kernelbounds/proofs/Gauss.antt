@@ -15,12 +15,13 @@ use lib.Ieee.Fits.{and_l, and_r, div-fits}
 use Rattle.base.specs.F64.{◌+f◌, ◌-f◌, ◌*f◌, ◌/f◌, wholef, f0, f2}
 use Rattle.base.proofs.Bounds.{product_le}
 use Rattle.base.proofs.LoopLaws.{up_to_ind}
-use Rattle.base.proofs.TableLaws.{length-table, get_d_table}
+use Rattle.base.proofs.TableLaws.{get_d_table}
 use Rattle.bounds.specs.Bound.{Ranged, Least, Bounded, AllBounded}
 use Rattle.bounds.proofs.Ranges.{neg_ranged, mul_ranged, mul_least, div_ranged, add_ranged, add_least, ranged_within}
 use Rattle.bounds.proofs.Sums.{table_within}
 use Rattle.eye.specs.Eye.{blur_radius}
 use Rattle.blur.specs.Blur.{kernel_side, gaussian_at, gaussian_line, sum_of, blur_at, blur_of, gaussian_blur}
+use Rattle.blur.proofs.BlurLaws.{length_line}
 use Rattle.kernelbounds.specs.Kernels.{Fitting}
 use Rattle.kernelbounds.proofs.Exp.{exp_ranged, exp_least}
 use Rattle.kernelbounds.proofs.Width.{spread}
@@ -107,10 +108,6 @@ module _ (sigma : Float) (f : Fitting sigma) where
   abbrev g : List Float
   g = gaussian_line sigma r
 
-  length-line : length g ≡ kernel_side r
-  unfolding gaussian_line
-  length-line = length-table (kernel_side r) (gaussian_at sigma r)
-
   line_at : (i : ℕ) → i < kernel_side r → get_or g i nan ≡ gaussian_at sigma r i
   unfolding gaussian_line
   line_at i h = get_d_table (kernel_side r) (gaussian_at sigma r) i nan h
@@ -135,7 +132,7 @@ module _ (sigma : Float) (f : Fitting sigma) where
 
   sum_added : Added (kernel_side r) (sum_of g)
   unfolding sum_of
-  sum_added = rw length-line (up_to_ind Added (λ i s. s +f get_or g i nan) (kernel_side r) added f0 (zero_ranged, λ l. absurd (omega arith)))
+  sum_added = rw (length_line sigma r) (up_to_ind Added (λ i s. s +f get_or g i nan) (kernel_side r) added f0 (zero_ranged, λ l. absurd (omega arith)))
 
   abbrev total : Float
   total = sum_of g *f sum_of g
@@ -153,11 +150,11 @@ module _ (sigma : Float) (f : Fitting sigma) where
       let some : 0 < kernel_side r = omega arith in
       let a : i / kernel_side r < kernel_side r = (div-lt_iff_lt-mul some).1 h in
       let b : i % kernel_side r < kernel_side r = mod-lt i some in
-      rw (length-line, line_at (i / kernel_side r) a, line_at (i % kernel_side r) b)
+      rw (length_line sigma r, line_at (i / kernel_side r) a, line_at (i % kernel_side r) b)
       (div_ranged false 1 1 1 1 _ total (mul_ranged false false 1 1 1 _ _ (gaussian_ranged (i / kernel_side r) a) (gaussian_ranged (i % kernel_side r) b) (lit≤ tt) (lit< tt)) total_least (lit≤ tt) (lit≤ tt) (lit< tt))
 
   blur_at_within : (i : ℕ) → i < length g * length g → Bounded 0 1 (blur_at g (sum_of g) i)
-  blur_at_within i h = ranged_within false 1 _ (blur_ranged i (rw length-line at h)) (fits i)
+  blur_at_within i h = ranged_within false 1 _ (blur_ranged i (rw (length_line sigma r) at h)) (fits i)
     where
       fits : (i : ℕ) → T (lib.Ieee.fits binary64 (blur_at g (sum_of g) i))
       fits i = unfold blur_at in div-fits binary64 _ total
@@ -165,7 +162,3 @@ module _ (sigma : Float) (f : Fitting sigma) where
   pub blur_within : AllBounded 0 1 (gaussian_blur sigma)
   unfolding gaussian_blur blur_of
   blur_within = table_within 0 1 (length g * length g) (blur_at g (sum_of g)) blur_at_within
-
-  pub length_blur : length (gaussian_blur sigma) ≡ kernel_side r * kernel_side r
-  unfolding gaussian_blur blur_of
-  length_blur = rw length-line (length-table (kernel_side r * kernel_side r) (blur_at g (sum_of g)))

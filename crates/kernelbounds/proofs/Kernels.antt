@@ -17,12 +17,13 @@ use Rattle.eye.specs.Constants.{alpha_lum, alpha_chroma}
 use Rattle.eye.specs.Eye.{sigma_px, blur_radius, kernel_radius, eye_tests}
 use Rattle.eye.proofs.EyeLaws.{narrow_both, wide_both, eye_passes, radii_fit}
 use Rattle.blur.specs.Blur.{kernel_side, values, gaussian_blur}
+use Rattle.blur.proofs.BlurLaws.{length_blur}
 use Rattle.kernel.specs.Kernel.{overlap_from, overlap_to, row_sum, correlation_at, autocorrelation, kernel_of, lum_base, chroma_base, eye_kernels}
 use Rattle.kernel.specs.Ready.{RowMeets}
 use Rattle.kernel.proofs.OverlapLaws.{term}
 use Rattle.kernel.proofs.KernelLaws.{length_kernel, lum_value, chroma_value}
 use Rattle.kernelbounds.specs.Kernels.{Fitting, kernel_exponent}
-use Rattle.kernelbounds.proofs.Gauss.{blur_within, length_blur}
+use Rattle.kernelbounds.proofs.Gauss.{blur_within}
 
 -- a blur of reach at most 16 overlaps itself in at most 33 columns, and rows
 few_terms : (r o : ℕ) → r ≤ 16 → overlap_to r o - overlap_from r o ≤ 33
@@ -32,8 +33,8 @@ below : (m k : ℕ) → m + 33 * 1 ≤ 1089 → k + 1 ≤ m + 33 * 1 → k + 1 <
 below m k h l = omega arith
 
 module _ (p : List Float) (r : ℕ) (few : r ≤ 16) (square : length p ≡ values r) (w : AllBounded 0 1 p) (i j : ℕ) (hi : i < kernel_side (2 * r)) (hj : j < kernel_side (2 * r)) where
-  row : (y : ℕ) → overlap_from r j ≤ y → y < overlap_to r j → RowMeets (length p) r i j y
-  row y a b = record { offset = record { radius = few; square = square; column = hi; row = hj }; from = a; to = b }
+  row : (y : ℕ) → overlap_from r j ≤ y → y < overlap_to r j → RowMeets r i j y
+  row y a b = record { offset = record { column = hi; row = hj }; from = a; to = b }
 
   -- at most 33 terms of a row
   row_within : (y m : ℕ) → overlap_from r j ≤ y → y < overlap_to r j → m + 33 * 1 ≤ 1089 → (s : Float) → Bounded 0 m s → Bounded 0 (m + 33 * 1) (row_sum p r i j y s)
@@ -41,7 +42,7 @@ module _ (p : List Float) (r : ℕ) (few : r ≤ 16) (square : length p ≡ valu
   row_within y m a b h s v =
       from_to-grown (Bounded 0) (rise 0) 1 33 m (overlap_from r i) (overlap_to r i) _ (few_terms r i few)
       (λ x k c d l t u.
-      let q = term (length p) r i j x y (row y a b) c d in
+      let q = term (length p) r i j x y (omega arith) (row y a b) c d in
       add_within u (mul_within (w _ q.here) (w _ q.there) (lit< tt) (lit≤ tt)) (below m k h l) (lit≤ tt))
       s v
 
@@ -57,7 +58,7 @@ kernel_within sigma f =
     let r = blur_radius sigma in
     let some : 0 < kernel_side (2 * r) = omega arith in
     table_within kernel_exponent 1 (values (2 * r)) _ (λ k h.
-    correlation_within (gaussian_blur sigma) r f.reach (length_blur sigma f) (blur_within sigma f) (k % kernel_side (2 * r)) (k / kernel_side (2 * r)) (mod-lt k some) ((div-lt_iff_lt-mul some).1 h))
+    correlation_within (gaussian_blur sigma) r f.reach (length_blur sigma) (blur_within sigma f) (k % kernel_side (2 * r)) (k / kernel_side (2 * r)) (mod-lt k some) ((div-lt_iff_lt-mul some).1 h))
 
 -- ---- an accepted eye
 

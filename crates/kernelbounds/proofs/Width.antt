@@ -16,7 +16,7 @@ use lib.Ieee.Positive.{num, den, positive, above_of_le, between, mul_mono, le→
 use Rattle.base.specs.F64.{f64, ◌*f◌, f2}
 use Rattle.eye.specs.Constants.{sigma_min, truncation_max, truncation_sigmas}
 use Rattle.eye.specs.Ceil.{ceil, ceil_least}
-use Rattle.eye.specs.Eye.{truncation, Narrow, blur_radius}
+use Rattle.eye.specs.Eye.{truncation, blur_radius}
 use Rattle.bounds.specs.Bound.{Least}
 use Rattle.kernelbounds.specs.Kernels.{Fitting}
 
@@ -134,7 +134,7 @@ unfolding of_bits
 under_half m e h = le_of_values (fin false m e) half (m * up e) (down e) 1 2 (down_pos e) (lit≤ tt) (refl, refl) (refl, refl) (omega (arith, h))
 
 pub spread : (sigma : Float) → Fitting sigma → Least 1 4 (divisor sigma) ⊎ (Least 1 256 (divisor sigma) × (blur_radius sigma ≤ 2))
-unfolding Narrow blur_radius
+unfolding blur_radius
 spread sigma f = go sigma (usual sigma f.least f.most) f.least
   where
     go : (sigma : Float) → Usual sigma → T (le sigma_min sigma) → Least 1 4 (divisor sigma) ⊎ (Least 1 256 (divisor sigma) × (max 1 (ceil (truncation sigma)) ≤ 2))

@@ -31,6 +31,7 @@ impl<'a> Line<'a> {
             .unwrap_or(&[])
     }
 
+    // Kept: `number` and `bits` are a line each, and differ in the base.
     pub fn number(self, k: usize) -> u64 {
         number(self.from_word(k), 10)
     }

@@ -39,9 +39,8 @@ pub fn take(rt: &impl Print, line: Line<'_>, job: &mut Job) -> io::Result<()> {
         copy_indices,
     );
     println!(rt;
-        "taken {} {} {} {} {}",
-        status.number,
-        status.place,
+        "taken {} {} {} {}",
+        status,
         Checksum::of(states),
         Checksum::of(copy_cpe),
         Checksum::of(copy_indices)
@@ -111,9 +110,8 @@ pub fn put_back(rt: &impl Print, line: Line<'_>, job: &mut Job) -> io::Result<()
         line.float(4),
     );
     println!(rt;
-        "back {} {} {} {} {} {} {}",
-        status.number,
-        status.place,
+        "back {} {} {} {} {} {}",
+        status,
         Checksum::of(indices),
         Checksum::of(cpe),
         Checksum::of(states),
@@ -126,12 +124,7 @@ pub fn recall(rt: &impl Print, line: Line<'_>, job: &mut Job) -> io::Result<()> 
     let Job { states, record, .. } = job;
     let states = part_mut(states, line.number(2));
     let status = dbs::dbs_recall(part(record, line.number(3)), line.number(1), states);
-    println!(rt;
-        "recalled {} {} {}",
-        status.number,
-        status.place,
-        Checksum::of(states)
-    )
+    println!(rt; "recalled {} {}", status, Checksum::of(states))
 }
 
 pub fn close(rt: &impl Print, line: Line<'_>, job: &mut Job) -> io::Result<()> {
@@ -147,9 +140,8 @@ pub fn close(rt: &impl Print, line: Line<'_>, job: &mut Job) -> io::Result<()> {
     let record = part_mut(record, line.number(4));
     let status = dbs::dbs_close(record, counts, states, part(deltas, line.number(3)));
     println!(rt;
-        "closed {} {} {} {} {}",
-        status.number,
-        status.place,
+        "closed {} {} {} {}",
+        status,
         Checksum::of(counts),
         Checksum::of(states),
         Checksum::of(record)

@@ -1,7 +1,7 @@
 -- The blurred error block by block: sums of the mirrored blur are the blurred error, blocks make bands, bands the error. Assumes nothing.
 use Prim.Native.Nat.{ℕ, ◌+◌, ◌*◌, ◌-◌, ◌<◌, ◌≤◌, min}
 use native.Mathlib.Omega.{arith}
-use native.Mathlib.Nat.{add-mul, mul-le-mul}
+use native.Mathlib.Nat.{add-mul}
 use mathlib.Core.Path.{◌≡◌, refl, sym, ap, ◌∙◌}
 use mathlib.Core.List.{List}
 use lib.ListN.{length}
@@ -148,7 +148,3 @@ band_added F G blur c y n sums s e =
 -- the error seen through a blur, by its values from last to first
 pub seen_through : (F : Frame) (G : Scene) (blur taps : List Float) (c n : ℕ) (r : Float) → r ≡ blur_error F G (mirror_of taps) c → taps ≡ table n (mirrored blur n) → n ≡ (2 * F.radius + 1) * (2 * F.radius + 1) → r ≡ blur_error F G blur c
 seen_through F G blur taps c n r q e p = q ∙ error_same F G (mirror_of taps) blur c (blur_back blur taps F.radius (rw p at e))
-
--- a blur's values have room
-pub blur_most : (r : ℕ) → r ≤ 16 → (2 * r + 1) * (2 * r + 1) ≤ 1089
-blur_most r h = let e : 2 * r + 1 ≤ 33 = omega (arith, h) in omega (arith, mul-le-mul e e)

@@ -7,24 +7,17 @@
 ghost use Rattle.std.specs.Prelude.{◌≡◌, ◌+◌, ◌*◌, ◌<◌, ◌≤◌, length};
 ghost use Rattle.base.specs.Limits.{max_side};
 ghost use Rattle.base.specs.Loop.{table};
+ghost use Rattle.blur.specs.Blur.{values};
 ghost use Rattle.color.specs.Inks.{number};
 ghost use Rattle.error.specs.Scenes.{unpinned_of};
 ghost use Rattle.measure.specs.Measure.{frame, row_error, blur_error, perceived_of};
 ghost use Rattle.measure.specs.Blocks.{mirror_of, view, block_of, ViewFits};
 
 use block::Block;
+use blur::{Blur, value_count};
 use color::Channel;
 use correlate::Lines;
 use error::Scene;
-
-// A blur: a square of values, row by row, or more values than that.
-#[derive(Clone, Copy)]
-pub struct Blur<'a> {
-    pub values: &'a [f64],
-    pub radius: usize,
-    pub ghost most: { radius ≤ 16 },
-    pub ghost room: { (2 * radius + 1) * (2 * radius + 1) ≤ length values.now },
-}
 
 // The next block of a band, which begins in column x and row y: as sums of the error they take, of the
 // blur's values from last to first, the pixels up to twice the radius before them.
@@ -72,7 +65,7 @@ fn square_band(
 
 // A channel of the error, seen through a blur, given its values last to first: bands from top to bottom.
 fn blur_error(scene: Scene<'_>, taps: Blur<'_>, c: Channel) -> f64
-    requires { length taps.values.now ≡ (2 * taps.radius + 1) * (2 * taps.radius + 1) }
+    requires { length taps.values.now ≡ values taps.radius }
     ensures { result ≡ blur_error (frame scene.entry.width scene.entry.height taps.entry.radius) (unpinned_of scene.entry) (mirror_of taps.entry.values.now) (number c) }
 {
     let mut line = [0.0f64; 160];
@@ -84,7 +77,7 @@ fn blur_error(scene: Scene<'_>, taps: Blur<'_>, c: Channel) -> f64
         let rows = (end - y).min(64);
         let band = &mut sums[..rows];
         square_band(scene, taps, c, y, &mut line, &mut out, band);
-        s = squares::add_all(s, band);
+        s = blur::add_all(s, band);
     }
     s
 }
@@ -93,9 +86,8 @@ fn blur_error(scene: Scene<'_>, taps: Blur<'_>, c: Channel) -> f64
 fn channel_error(scene: Scene<'_>, blur: Blur<'_>, c: Channel) -> f64
     ensures { result ≡ blur_error (frame scene.entry.width scene.entry.height blur.entry.radius) (unpinned_of scene.entry) blur.entry.values.now (number c) }
 {
-    let side = 2 * blur.radius + 1;
     let mut room = [0.0f64; 1089];
-    let values = &mut room[..side * side];
+    let values = &mut room[..value_count(blur.radius)];
     squares::mirror(blur.values, values);
     blur_error(
         scene,

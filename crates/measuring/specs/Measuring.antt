@@ -1,5 +1,5 @@
 -- The perceived error of an accepted input.
-use Rattle.std.specs.Prelude.{◌≡◌, List, ℕ, ◌≤◌, Float}
+use Rattle.std.specs.Prelude.{Float}
 use Rattle.color.specs.Inks.{ink_values}
 use Rattle.eye.specs.Constants.{alpha_lum, alpha_chroma}
 use Rattle.eye.specs.Eye.{sigma_px, blur_radius}
@@ -14,11 +14,3 @@ measured_error I =
     let lum = sigma_px alpha_lum I.params in
     let chroma = sigma_px alpha_chroma I.params in
     perceived_of I.width I.height I.pixels I.indices (ink_values I.palette) (gaussian_blur lum) (blur_radius lum) (gaussian_blur chroma) (blur_radius chroma)
-
--- ---- what an inner function leaves
-
--- the blur of a width, and its radius
-pub record Blur (sigma : Float) (blur : List Float) (r : ℕ) : Type 0 where
-  pub values_are : blur ≡ gaussian_blur sigma
-  pub radius_is : r ≡ blur_radius sigma
-  pub most : r ≤ 16

@@ -3,30 +3,13 @@
 
 ghost use Rattle.std.specs.Prelude.{◌≡◌};
 ghost use Rattle.base.specs.Refusal.{judge, accepted};
-ghost use Rattle.eye.specs.Eye.{sigma_px, Narrow};
 ghost use Rattle.input.specs.Input.{input_tests};
 ghost use Rattle.input.specs.Inputs.{input_of};
-ghost use Rattle.measuring.specs.Measuring as spec;
 ghost use Rattle.measuring.specs.Measuring.{measured_error};
 
 use base::MAX_INKS;
 use error::Scene;
-use eye::{ALPHA_CHROMA, ALPHA_LUM, DbsParams};
 use input::Input;
-use measure::Blur;
-
-// The blur of an eye, in room for the largest.
-fn eye_blur<'a>(alpha: f64, params: DbsParams, room: &'a mut [f64; 1089]) -> Blur<'a>
-    requires { Narrow (sigma_px alpha params) }
-    ensures { spec.Blur (sigma_px alpha params) result.values.now result.radius }
-{
-    let sigma = eye::eye_sigma_px(alpha, params);
-    let radius = eye::blur_radius(sigma);
-    let side = 2 * radius + 1;
-    let values = &mut room[..side * side];
-    blur::gaussian_blur(sigma, values);
-    Blur { values, radius }
-}
 
 // The error of an accepted input, with room of its own for the ink values and both blurs.
 pub fn perceived_error(given: Input<'_>) -> f64
@@ -43,10 +26,11 @@ pub fn perceived_error(given: Input<'_>) -> f64
         height: given.height as usize,
         pixels: given.pixels,
         indices: given.indices,
-        pinned: &given.indices[..0],
+        pinned: &[],
         inks,
     };
-    let lum = eye_blur(ALPHA_LUM, given.params, &mut lum);
-    let chroma = eye_blur(ALPHA_CHROMA, given.params, &mut chroma);
+    let widths = given.params.widths();
+    let lum = blur::gaussian_blur(widths.lum, &mut lum);
+    let chroma = blur::gaussian_blur(widths.chroma, &mut chroma);
     measure::perceived(scene, lum, chroma)
 }

@@ -7,7 +7,7 @@ ghost use Rattle.base.specs.Limits.{max_side, max_inks};
 ghost use Rattle.base.specs.Grid.{Inside, area, put};
 ghost use Rattle.color.specs.Values.{values_at, less_of};
 ghost use Rattle.search.specs.Shared.{shared_of, Held};
-ghost use Rattle.search.specs.declared.Move.TheVariants.{Toggle, Swap};
+ghost use Rattle.search.specs.declared.Move.TheVariants.{Toggle};
 ghost use Rattle.moves.specs.Moves.{Writable, NamesInk, exchanged, swap_kernels, moved_indices, moved_cpe};
 
 use base::{Index, Rect};
@@ -36,6 +36,7 @@ fn put_index(indices: &mut [Index], w: Rect, x: usize, y: usize, j: usize)
 }
 
 // The pixel takes ink j.
+// Kept: `cpe` and `indices` go apart, as the host lends them: a struct of two `&mut` would be made anew at each call.
 #[tactic(auto, unfolding(tiling::specs::Tiling::image, crate::specs::Moves::moved_cpe, crate::specs::Moves::moved_indices))]
 fn toggle_to(
     cpe: &mut [f64],
@@ -53,7 +54,7 @@ fn toggle_to(
     ensures indices_after { indices.new ≡ moved_indices s.entry.tiling w x y (Toggle j) indices.old }
 {
     let a = change(s.inks, j, search::index_at(indices, w, x, y));
-    sweep::add_kernels(cpe, s.cpp, s.tiling, w, x, y, a);
+    sweep::add_kernels(cpe, s.cpp, s.tiling, w, Source { x, y, a });
     put_index(indices, w, x, y, j);
 }
 
@@ -91,28 +92,7 @@ fn swap_with(
     put_index(indices, w, nx, ny, k);
 }
 
-// The pixel and its neighbour, if the code names one, exchange their inks.
-#[tactic(auto, unfolding(crate::specs::Moves::moved_cpe, crate::specs::Moves::moved_indices))]
-fn swap_by(
-    cpe: &mut [f64],
-    indices: &mut [Index],
-    s: Setup<'_>,
-    w: Rect,
-    x: usize,
-    y: usize,
-    code: u8,
-)
-    requires held { Held s.tiling w x y }
-    requires writable { Writable s.tiling w s.inks.now s.cpp.now (length cpe.old) indices.old }
-    ensures cpe_after { cpe.new ≡ moved_cpe (shared_of s.entry) w x y (Swap code) indices.old cpe.old }
-    ensures indices_after { indices.new ≡ moved_indices s.entry.tiling w x y (Swap code) indices.old }
-{
-    if let Some((nx, ny)) = neighbour::neighbour(code, x, y, s.tiling.width, s.tiling.height) {
-        swap_with(cpe, indices, s, w, x, y, nx, ny);
-    }
-}
-
-// A move of the pixel is made.
+// A move of the pixel is made; a swap exchanges its ink and that of the neighbour that the code names, if any.
 #[tactic(auto, unfolding(crate::specs::Moves::moved_cpe, crate::specs::Moves::moved_indices))]
 pub fn apply_move(
     cpe: &mut [f64],
@@ -132,6 +112,11 @@ pub fn apply_move(
     match mv {
         Move::Stay => {}
         Move::Toggle(j) => toggle_to(cpe, indices, s, w, x, y, j),
-        Move::Swap(code) => swap_by(cpe, indices, s, w, x, y, code),
+        Move::Swap(code) => {
+            let t = s.tiling;
+            if let Some((nx, ny)) = neighbour::neighbour(code, x, y, t.width, t.height) {
+                swap_with(cpe, indices, s, w, x, y, nx, ny);
+            }
+        }
     }
 }

@@ -5,20 +5,20 @@
 ghost use Rattle.std.specs.Prelude.{◌≡◌, cond, ◌≤◌, ◌<◌, eqb, length, set};
 ghost use Rattle.base.specs.F64.{◌+f◌};
 ghost use Rattle.base.specs.Limits.{max_pixels, max_passes};
-ghost use Rattle.tiling.specs.Tiling.{Limits, tiles, in_phase};
+ghost use Rattle.tiling.specs.Tiling.{tiles, in_phase};
 ghost use Rattle.job.specs.declared.TileState.TheVariants.{Waiting};
 ghost use Rattle.job.specs.Record.{byte_of};
 ghost use Rattle.job.specs.Close.{with_deltas, released, next_with};
 
 use job::{JobRecord, TileState};
-use tiling::Tiling;
+use tiling::Tiles;
 
 const LAST_PHASE: u64 = 3;
 
 // The error, with a tile's delta where it is one of the phase.
-fn add_delta(t: Tiling, phase: usize, tile: usize, delta: f64, error: f64) -> f64
-    requires { Limits t }
-    ensures { result ≡ cond (in_phase t phase tile) (error +f delta) error }
+// Kept: a phase is document 01's number from 0 to 3, and a struct of it and the tiles would be taken apart again by `is_in_phase`.
+fn add_delta(t: Tiles, phase: usize, tile: usize, delta: f64, error: f64) -> f64
+    ensures { result ≡ cond (in_phase t.tiling phase tile) (error +f delta) error }
 {
     if t.is_in_phase(phase, tile) {
         return error + delta;
@@ -27,9 +27,8 @@ fn add_delta(t: Tiling, phase: usize, tile: usize, delta: f64, error: f64) -> f6
 }
 
 // The deltas of the phase's tiles joined to the error, one by one.
-pub fn add_deltas(t: Tiling, phase: usize, deltas: &[f64], error: f64) -> f64
-    requires { Limits t }
-    ensures { result ≡ with_deltas t phase deltas.now (length deltas.now) error }
+pub fn add_deltas(t: Tiles, phase: usize, deltas: &[f64], error: f64) -> f64
+    ensures { result ≡ with_deltas t.tiling phase deltas.now (length deltas.now) error }
 {
     let mut e = error;
     for (i, delta) in deltas.iter().enumerate() {
@@ -39,9 +38,8 @@ pub fn add_deltas(t: Tiling, phase: usize, deltas: &[f64], error: f64) -> f64
 }
 
 // The state of a tile once the phase is closed.
-fn released_state(t: Tiling, phase: usize, tile: usize, state: u8) -> u8
-    requires { Limits t }
-    ensures { result ≡ cond (in_phase t phase tile) (byte_of Waiting) state }
+fn released_state(t: Tiles, phase: usize, tile: usize, state: u8) -> u8
+    ensures { result ≡ cond (in_phase t.tiling phase tile) (byte_of Waiting) state }
 {
     if t.is_in_phase(phase, tile) {
         return u8::from(TileState::Waiting);
@@ -50,10 +48,9 @@ fn released_state(t: Tiling, phase: usize, tile: usize, state: u8) -> u8
 }
 
 // The tiles of the phase set waiting.
-pub fn release(t: Tiling, phase: usize, tile_states: &mut [u8])
-    requires limits { Limits t }
-    requires tile_states_len { length tile_states.old ≡ tiles t }
-    ensures { tile_states.new ≡ released t phase tile_states.old }
+pub fn release(t: Tiles, phase: usize, tile_states: &mut [u8])
+    requires { length tile_states.old ≡ tiles t.tiling }
+    ensures { tile_states.new ≡ released t.tiling phase tile_states.old }
 {
     for (i, state) in tile_states.iter_mut().enumerate() {
         *state = released_state(t, phase, i, *state);
@@ -67,19 +64,23 @@ pub fn next_record(r: JobRecord, error: f64) -> JobRecord
     ensures { result ≡ next_with r error }
 {
     let plan = r.plan;
-    let mut next = r;
-    next.error = error;
     if r.phase == LAST_PHASE {
         let done = r.done + 1;
-        next.done = done;
-        next.phase = 0;
-        next.accepted = 0;
-        next.finished = r.accepted == 0 || plan.allowed <= done;
-        return next;
+        return JobRecord {
+            done,
+            phase: 0,
+            accepted: 0,
+            error,
+            finished: r.accepted == 0 || plan.allowed <= done,
+            ..r
+        };
     }
-    next.phase = r.phase + 1;
-    next.finished = false;
-    next
+    JobRecord {
+        phase: r.phase + 1,
+        error,
+        finished: false,
+        ..r
+    }
 }
 
 // The moves of the pass stored after its last phase.

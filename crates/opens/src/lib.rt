@@ -48,9 +48,8 @@ pub fn open(rt: &impl Print, line: Line<'_>, job: &mut Job) -> io::Result<()> {
         inks,
     );
     println!(rt;
-        "opened {} {} {} {} {} {} {} {}",
-        status.number,
-        status.place,
+        "opened {} {} {} {} {} {} {}",
+        status,
         Checksum::of(cpe),
         Checksum::of(cpp),
         Checksum::of(inks),

@@ -1,65 +1,48 @@
 // Measuring: `perceived_error` of dbs.rs. Tests 1 to 9, and then an accepted input is measured. Pins play no part.
 #![tactic(auto)]
 
-ghost use Rattle.std.specs.Prelude.{◌≡◌, []};
-ghost use Rattle.base.specs.Answer.{number_and_place};
-ghost use Rattle.input.specs.Input.{input};
-ghost use Rattle.perceived.specs.Perceived.{refusal, measure_of};
+ghost use Rattle.std.specs.Prelude.{◌≡◌};
+ghost use Rattle.input.specs.Inputs.{input_of};
+ghost use Rattle.perceived.specs.Perceived.{answer_of, measure_of};
 
-use base::{Index, Refusal, Status};
-use eye::DbsParams;
+use base::{Refusal, Status};
 use input::Input;
 
 // The perceived error, or a refusal with a zero.
 // Kept: C reads number and place here, so that it is no `Result`.
 #[repr(C)]
-#[derive(Clone, Copy)]
+#[derive(Clone, Copy, Default)]
 pub struct Measured {
     pub number: u64,
     pub place: u64,
     pub error: f64,
 }
 
-impl From<Refusal> for Measured {
-    ghost from_gives = { λ r m. m ≡ refusal (number_and_place r) };
+impl From<Result<f64, Refusal>> for Measured {
+    ghost from_gives = { λ r m. m ≡ answer_of r };
 
-    fn from(refusal: Refusal) -> Measured {
-        let s = Status::from(refusal);
-        Measured {
-            number: s.number,
-            place: s.place,
-            error: 0.0,
+    fn from(measured: Result<f64, Refusal>) -> Measured {
+        match measured {
+            Ok(error) => Measured {
+                error,
+                ..Measured::default()
+            },
+            Err(refusal) => {
+                let Status { number, place } = Status::from(refusal);
+                Measured {
+                    number,
+                    place,
+                    ..Measured::default()
+                }
+            }
         }
     }
 }
 
 // Perceived error of the indices; pins play no part.
-pub fn measure(
-    pixels: &[u8],
-    width: u64,
-    height: u64,
-    palette: &[u8],
-    indices: &[Index],
-    params: DbsParams,
-) -> Measured
-    ensures { result ≡ measure_of (input width height pixels.now palette.now indices.now [] params) }
+pub fn measure(given: Input<'_>) -> Result<f64, Refusal>
+    ensures { answer_of result ≡ measure_of (input_of given.entry) }
 {
-    // An empty mask: nothing is pinned.
-    let given = Input {
-        width,
-        height,
-        pixels,
-        palette,
-        indices,
-        pinned: &palette[..0],
-        params,
-    };
-    if let Err(refusal) = given.check() {
-        return Measured::from(refusal);
-    }
-    Measured {
-        number: 0,
-        place: 0,
-        error: measuring::perceived_error(given),
-    }
+    given.check()?;
+    Ok(measuring::perceived_error(given))
 }

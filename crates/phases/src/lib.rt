@@ -8,6 +8,7 @@ ghost use Rattle.phases.specs.Phases.{refined, walk_tile, walk_try, walk_tiles};
 
 use base::Index;
 use search::Setup;
+use tiling::Tiles;
 
 // The error so far, and the moves accepted in this pass.
 #[derive(Clone, Copy)]
@@ -17,6 +18,7 @@ pub struct Run {
 }
 
 // One tile on the whole image: its delta joins the error after it.
+// Kept: `cpe` and `indices` go apart, as the host lends them: a struct of two `&mut` would be made anew at each call.
 #[tactic(auto, using(crate::proofs::Laws::image_covers), unfolding(crate::specs::Phases::walk_tile))]
 fn walk_tile(cpe: &mut [f64], indices: &mut [Index], s: Setup<'_>, tile: usize, run: Run) -> Run
     requires ready { Ready (shared_of s) (image s.tiling) (length cpe.old) indices.old }
@@ -24,7 +26,8 @@ fn walk_tile(cpe: &mut [f64], indices: &mut [Index], s: Setup<'_>, tile: usize, 
     ensures { refined cpe.new indices.new result ≡ walk_tile (shared_of s.entry) tile (refined cpe.old indices.old run) }
 {
     let w = s.tiling.image_rect();
-    let q = s.tiling.tile_rect(tile);
+    let tiles = Tiles { tiling: s.tiling };
+    let q = tiles.tile_rect(tile);
     let p = tile::refine_tile(cpe, indices, s, w, q);
     Run {
         error: run.error + p.delta,
@@ -46,7 +49,8 @@ fn walk_try(
     requires tile_bound { (tile < tiles s.tiling) × (run.accepted < 2 ^ 48) }
     ensures { refined cpe.new indices.new result ≡ walk_try (shared_of s.entry) phase tile (refined cpe.old indices.old run) }
 {
-    if s.tiling.is_in_phase(phase, tile) {
+    let tiles = Tiles { tiling: s.tiling };
+    if tiles.is_in_phase(phase, tile) {
         return walk_tile(cpe, indices, s, tile, run);
     }
     run
@@ -65,8 +69,9 @@ pub fn walk_tiles(
     requires accepted_bound { run.accepted < 2 ^ 40 }
     ensures { refined cpe.new indices.new result ≡ walk_tiles (shared_of s.entry) phase (refined cpe.old indices.old run) }
 {
+    let tiles = Tiles { tiling: s.tiling };
     let mut n = run;
-    for tile in 0..s.tiling.tile_count() {
+    for tile in 0..tiles.tile_count() {
         n = walk_try(cpe, indices, s, phase, tile, n);
     }
     n

@@ -2,15 +2,14 @@
 -- by code: the neighbours of such a pixel are those of the middle of 3 × 3 pixels, moved. Assumes nothing.
 use mathlib.Core.Path.{◌≡◌, refl, sym, ap, ◌∙◌}
 use mathlib.Core.Logic.{⊎_elim}
-use mathlib.Core.Bool.{Bool, true, false, not}
+use mathlib.Core.Bool.{Bool}
 use mathlib.Core.List.{List}
 use Prim.Native.Nat.{ℕ, ◌+◌, ◌-◌, ◌*◌, ◌<◌, ◌≤◌}
 use native.Mathlib.Omega.{arith}
 use native.Mathlib.Nat.{add-mul}
 use native.Mathlib.Numerals.{unary_clauses}
-use lib.Dec.{eqb}
 use lib.IntN.{ℤ}
-use lib.ListN.{get_or, length}
+use lib.ListN.{get_or}
 use Rattle.base.specs.declared.Rect.{Rect}
 use Rattle.base.specs.Limits.{max_pixels}
 use Rattle.base.specs.Loop.{table}
@@ -20,13 +19,13 @@ use Rattle.base.proofs.TableLaws.{get_d_table}
 use Rattle.neighbour.specs.Neighbour.{Small, offset_of, shifted_of, adjacent_at, adjacent_by, neighbour_of}
 use Rattle.std.specs.Prelude.{Option, Some, None}
 use Rattle.neighbour.proofs.Laws.{stay, on, back, Smalls, all_small}
-use Rattle.pins.specs.Pins.{pinned_at}
+use Rattle.pins.specs.Pins.{byte_pins, pinned_at}
 use Rattle.tiling.specs.declared.Tiling.{Tiling}
 use Rattle.tiling.specs.Tiling.{image}
+use Rattle.tables.specs.declared.Position.{Position}
 use Rattle.tables.specs.declared.Tables.{Tables}
-use Rattle.tables.specs.Tables.{step_to, step_of}
+use Rattle.tables.specs.Tables.{step_to, step_of, step_both}
 use Rattle.tables.proofs.AllEight.{Found, all_eight}
-use Rattle.places.specs.declared.Corner.{Corner}
 use Rattle.places.specs.declared.Spot.{Spot}
 use Rattle.places.specs.Places.{place_of, Findable, Amid, Spotted}
 use Rattle.places.proofs.Window.{place_index, window_limits, area_limit, neighbour_inside}
@@ -83,7 +82,7 @@ image_step : (T : Tiling) (x y i j : ℕ) → (y + j) * T.width + (x + i) ≡ pl
 unfolding image
 image_step T x y i j = simp unary_clauses (simp unary_clauses at (steps_on x y 0 0 i j T.width (omega arith) (omega arith)))
 
-pub stands : (T : Tiling) (W : Rect) (x y : ℕ) (c : Corner) (code : ℕ) → code < 8 → Amid T W x y c → Stands T W code x y
+pub stands : (T : Tiling) (W : Rect) (x y : ℕ) (c : Position) (code : ℕ) → code < 8 → Amid T W x y c → Stands T W code x y
 unfolding step_of
 stands T W x y c code h m = go (neighbour_of code 1 1 3 3) refl (all_eight code 1 1 3 3 h (omega arith) (omega arith) (omega arith) (omega arith))
   where
@@ -98,44 +97,45 @@ stands T W x y c code h m = go (neighbour_of code 1 1 3 3) refl (all_eight code 
           mask = rw e (image_step T (x - 1) (y - 1) i j);
         }
 
+-- what a read past the end gives
+abbrev pub no_step : Position
+no_step = record { window = 0; mask = 0 }
+
 -- the same of the places that the code reads, with their bounds
-pub record Stepped (T : Tiling) (tab : Tables) (p : Spot) (c : Corner) (code : ℕ) : Type 0 where
+pub record Stepped (T : Tiling) (tab : Tables) (p : Spot) (c : Position) (code : ℕ) : Type 0 where
   pub nx : ℕ
   pub ny : ℕ
   pub beside : neighbour_of code p.x p.y T.width T.height ≡ Some (nx, ny)
-  pub place : c.window + get_or tab.steps code 0 ≡ place_of tab.w nx ny
+  pub place : c.window + (get_or tab.steps code no_step).window ≡ place_of tab.w nx ny
   pub place_limit : place_of tab.w nx ny < max_pixels
-  pub mask : c.mask + get_or tab.marks code 0 ≡ ny * T.width + nx
+  pub mask : c.mask + (get_or tab.steps code no_step).mask ≡ ny * T.width + nx
   pub mask_bound : ny * T.width + nx < T.height * T.width
   pub mask_limit : T.height * T.width ≤ max_pixels
 
-entry : (f : ℕ → ℕ) (code : ℕ) → code < 8 → {l : List ℕ} → l ≡ table 8 f → get_or l code 0 ≡ f code
-entry f code h e = rw e (get_d_table 8 f code 0 h)
+entry : (tab : Tables) (T : Tiling) (code : ℕ) → code < 8 → tab.steps ≡ table 8 (step_both tab.w (image T)) → get_or tab.steps code no_step ≡ step_both tab.w (image T) code
+entry tab T code h e = rw e (get_d_table 8 (step_both tab.w (image T)) code no_step h)
 
 sum : {a b c d : ℕ} → a ≡ c → b ≡ d → a + b ≡ c + d
 sum p q = cc
 
-pub stepped : (pinned : List ℕ) (T : Tiling) (tab : Tables) (p : Spot) (c : Corner) (code : ℕ) → Findable pinned T tab → Spotted T tab.w p → p.amid ≡ Some c → code < 8 → Stepped T tab p c code
+pub stepped : (pinned : List ℕ) (T : Tiling) (tab : Tables) (p : Spot) (c : Position) (code : ℕ) → Findable pinned T tab → Spotted T tab.w p → p.amid ≡ Some c → code < 8 → Stepped T tab p c code
 stepped pinned T tab p c code f s e h =
     let m : Amid T tab.w p.x p.y c = rw e at s.around in
     let at = stands T tab.w p.x p.y c code h m in
     let i = neighbour_inside T tab.w code p.x p.y at.nx at.ny s.held at.beside in
+    let step = entry tab T code h f.steps in
     record {
       nx = at.nx;
       ny = at.ny;
       beside = at.beside;
-      place = sum m.window (entry (step_of tab.w) code h f.steps) ∙ sym (at.place s.held.left s.held.top);
+      place = sum m.window (ap (λ (q : Position). q.window) step) ∙ sym (at.place s.held.left s.held.top);
       place_limit = omega (arith, place_lt 1 tab.w at.nx at.ny 0 i.0 (omega arith), place_index tab.w at.nx at.ny, area_limit tab.w (window_limits T tab.w f.limits f.within));
-      mask = sum m.mask (entry (step_of (image T)) code h f.marks) ∙ sym at.mask;
+      mask = sum m.mask (ap (λ (q : Position). q.mask) step) ∙ sym at.mask;
       mask_bound = index_lt at.nx at.ny T.width T.height i.1.under i.2.under;
       mask_limit = image_product T.height T.width f.limits.height_limit f.limits.width_limit;
     }
 
--- a mask of no bytes pins nothing, another what its byte says
-pub none_pinned : (mask : List ℕ) (width x y : ℕ) → eqb (length mask) 0 ≡ true → pinned_at mask width x y ≡ false
+-- whether a pixel is pinned, by the place of its byte
+pub pinned_by : (mask : List ℕ) (width x y i : ℕ) (b : Bool) → i ≡ y * width + x → b ≡ byte_pins mask i → pinned_at mask width x y ≡ b
 unfolding pinned_at
-none_pinned mask width x y e = rw e
-
-pub byte_pins : (mask : List ℕ) (width x y i : ℕ) (b : Bool) → i ≡ y * width + x → eqb (length mask) 0 ≡ false → eqb (get_or mask i 0) 0 ≡ b → pinned_at mask width x y ≡ not b
-unfolding pinned_at
-byte_pins mask width x y i b e n h = rw (← e, n, h)
+pinned_by mask width x y i b e h = rw (← e) (sym h)

@@ -8,9 +8,9 @@ use Rattle.neighbour.specs.Neighbour.{neighbour_of}
 use Rattle.pins.specs.Pins.{pinned_at}
 use Rattle.tiling.specs.declared.Tiling.{Tiling}
 use Rattle.tiling.specs.Tiling.{Limits, image}
+use Rattle.tables.specs.declared.Position.{Position}
 use Rattle.tables.specs.declared.Tables.{Tables}
-use Rattle.tables.specs.Tables.{step_of}
-use Rattle.places.specs.declared.Corner.{Corner}
+use Rattle.tables.specs.Tables.{step_both}
 use Rattle.places.specs.declared.Spot.{Spot}
 
 -- Pixel (x, y) lies in the image, and it and its neighbours in the image lie in the window.
@@ -44,11 +44,10 @@ pub record Findable (pinned : List ℕ) (T : Tiling) (tab : Tables) : Type 0 whe
   pub limits : Limits T
   pub within : Within (image T) tab.w
   pub mask : 0 < length pinned → length pinned ≡ T.height * T.width
-  pub steps : tab.steps ≡ table 8 (step_of tab.w)
-  pub marks : tab.marks ≡ table 8 (step_of (image T))
+  pub steps : tab.steps ≡ table 8 (step_both tab.w (image T))
 
 -- all eight neighbours lie in the image, and c has the places of the pixel above and left
-pub record Amid (T : Tiling) (W : Rect) (x y : ℕ) (c : Corner) : Type 0 where
+pub record Amid (T : Tiling) (W : Rect) (x y : ℕ) (c : Position) : Type 0 where
   pub left : 1 ≤ x
   pub right : x + 1 < T.width
   pub top : 1 ≤ y

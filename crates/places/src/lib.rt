@@ -6,20 +6,14 @@ ghost use Rattle.base.specs.Limits.{max_side};
 ghost use Rattle.base.specs.Grid.{Inside, Within, area};
 ghost use Rattle.base.specs.Loop.{table};
 ghost use Rattle.tiling.specs.Tiling.{Limits, image};
+ghost use Rattle.std.proofs.Props.{props};
 ghost use Rattle.places.specs.Places.{Held, partner_place, Findable, Spotted};
 
 use base::Rect;
 use pins::Pins;
 use std::array;
-use tables::Tables;
+use tables::{Position, Tables};
 use tiling::Tiling;
-
-// The places of the pixel above and left of another, in the window and in the mask.
-#[derive(Clone, Copy)]
-pub struct Corner {
-    pub window: usize,
-    pub mask: usize,
-}
 
 // A pixel and its place in the window; where all eight neighbours lie in the image also the places of
 // the pixel above and left of it.
@@ -28,10 +22,11 @@ pub struct Spot {
     pub x: usize,
     pub y: usize,
     pub own: usize,
-    pub amid: Option<Corner>,
+    pub amid: Option<Position>,
 }
 
 // Where pixel (x, y) stands among the pixels of the window.
+// Kept: a pixel goes as its window, column and row with the clause that it lies inside: loops count both, and a struct would be made at each call.
 #[tactic(auto, using(crate::proofs::Window::place_index, base::proofs::GridLaws::place_lt))]
 pub fn local(w: Rect, x: usize, y: usize) -> usize
     requires inside { Inside w x y }
@@ -44,8 +39,7 @@ pub fn local(w: Rect, x: usize, y: usize) -> usize
 
 // Whether all eight neighbours lie in the image.
 fn is_amid(t: Tiling, x: usize, y: usize) -> bool
-    requires limits { Limits t }
-    requires x_lt_width { (x < t.width) × (y < t.height) }
+    requires { (x < t.width) × (y < t.height) }
     ensures { result ≡ true → (1 ≤ x) × (x + 1 < t.width) × (1 ≤ y) × (y + 1 < t.height) }
 {
     0 < x && 0 < y && x + 1 < t.width && y + 1 < t.height
@@ -60,7 +54,7 @@ pub fn spot_of(t: Tiling, w: Rect, x: usize, y: usize) -> Spot
     ensures { (result.x ≡ x) × (result.y ≡ y) × Spotted t w result }
 {
     let amid = if is_amid(t, x, y) {
-        Some(Corner {
+        Some(Position {
             window: local(w, x - 1, y - 1),
             mask: local(t.image_rect(), x - 1, y - 1),
         })
@@ -75,56 +69,70 @@ pub fn spot_of(t: Tiling, w: Rect, x: usize, y: usize) -> Spot
     }
 }
 
-// Amid the image each neighbour stands a step on.
-fn step_place(pinned: &[u8], t: Tiling, tab: Tables, p: Spot, corner: Corner, code: usize) -> usize
-    requires findable { Findable pinned.now t tab }
-    requires spotted { Spotted t tab.w p }
-    requires amid_value { (p.amid ≡ Some corner) × (code < 8) }
-    ensures { result ≡ partner_place pinned.now t tab.w p.x p.y code }
-{
-    if !pinned.is_empty() && pinned[corner.mask + tab.marks[code]] != 0 {
-        return p.own;
-    }
-    corner.window + tab.steps[code]
+// A spot with what the places of its neighbours are found from.
+#[derive(Clone, Copy)]
+pub struct Around<'a> {
+    pub pinned: &'a [u8],
+    pub tiling: Tiling,
+    pub tab: Tables,
+    pub spot: Spot,
+    pub ghost findable: { Findable pinned.now tiling tab },
+    pub ghost spotted: { Spotted tiling tab.w spot } by { Prim.hlevel props },
 }
 
-// At an edge a neighbour may lie outside.
-#[tactic(auto, using(crate::proofs::Window::neighbour_inside), unfolding(crate::specs::Places::partner_place))]
-fn edge_place(pinned: &[u8], t: Tiling, tab: Tables, p: Spot, code: usize) -> usize
-    requires findable { Findable pinned.now t tab }
-    requires spotted { Spotted t tab.w p }
-    requires code_bound { code < 8 }
-    ensures { result ≡ partner_place pinned.now t tab.w p.x p.y code }
-{
-    let mask = Pins {
-        pinned,
-        width: t.width,
-    };
-    match neighbour::neighbour(code as u8, p.x, p.y, t.width, t.height) {
-        Some((nx, ny)) if !mask.is_pinned(nx, ny) => local(tab.w, nx, ny),
-        _ => p.own,
+impl<'a> Around<'a> {
+    // Amid the image each neighbour stands a step on.
+    fn step_place(self, corner: Position, code: usize) -> usize
+        requires { (self.spot.amid ≡ Some corner) × (code < 8) }
+        ensures { result ≡ partner_place self.entry.pinned.now self.entry.tiling self.entry.tab.w self.entry.spot.x self.entry.spot.y code }
+    {
+        let step = self.tab.steps[code];
+        let mask = Pins {
+            pinned: self.pinned,
+            width: self.tiling.width,
+        };
+        if mask.is_pinned_at(corner.mask + step.mask) {
+            return self.spot.own;
+        }
+        corner.window + step.window
     }
-}
 
-// Where the neighbour stands that a swap by this code would be made with. One that is outside the image or pinned
-// reads as the pixel itself, which has its own ink, so that no swap is weighed.
-fn partner_place(pinned: &[u8], t: Tiling, tab: Tables, p: Spot, code: usize) -> usize
-    requires findable { Findable pinned.now t tab }
-    requires spotted { Spotted t tab.w p }
-    requires code_bound { code < 8 }
-    ensures { result ≡ partner_place pinned.now t tab.w p.x p.y code }
-{
-    match p.amid {
-        Some(corner) => step_place(pinned, t, tab, p, corner, code),
-        None => edge_place(pinned, t, tab, p, code),
+    // At an edge a neighbour may lie outside.
+    #[tactic(auto, using(crate::proofs::Window::neighbour_inside), unfolding(crate::specs::Places::partner_place))]
+    fn edge_place(self, code: usize) -> usize
+        requires { code < 8 }
+        ensures { result ≡ partner_place self.entry.pinned.now self.entry.tiling self.entry.tab.w self.entry.spot.x self.entry.spot.y code }
+    {
+        let p = self.spot;
+        let t = self.tiling;
+        let mask = Pins {
+            pinned: self.pinned,
+            width: t.width,
+        };
+        match neighbour::neighbour(code as u8, p.x, p.y, t.width, t.height) {
+            Some((nx, ny)) if !mask.is_pinned(nx, ny) => local(self.tab.w, nx, ny),
+            _ => p.own,
+        }
     }
-}
 
-// The same by code.
-pub fn places_of(pinned: &[u8], t: Tiling, tab: Tables, p: Spot) -> [usize; 8]
-    requires findable { Findable pinned.now t tab }
-    requires spotted { Spotted t tab.w p }
-    ensures { result ≡ table 8 (partner_place pinned.now t tab.w p.x p.y) }
-{
-    array::from_fn(|code| partner_place(pinned, t, tab, p, code))
+    // Where the neighbour stands that a swap by this code would be made with. One that is outside the image or pinned
+    // reads as the pixel itself, which has its own ink, so that no swap is weighed.
+    // Kept: `code < 8` in a clause: a type of codes would be made of the number that `from_fn` counts with, and read as that
+    // number for the steps and in `neighbour`.
+    fn partner_place(self, code: usize) -> usize
+        requires { code < 8 }
+        ensures { result ≡ partner_place self.entry.pinned.now self.entry.tiling self.entry.tab.w self.entry.spot.x self.entry.spot.y code }
+    {
+        match self.spot.amid {
+            Some(corner) => self.step_place(corner, code),
+            None => self.edge_place(code),
+        }
+    }
+
+    // The same by code.
+    pub fn places(self) -> [usize; 8]
+        ensures { result ≡ table 8 (partner_place self.entry.pinned.now self.entry.tiling self.entry.tab.w self.entry.spot.x self.entry.spot.y) }
+    {
+        array::from_fn(|code| self.partner_place(code))
+    }
 }

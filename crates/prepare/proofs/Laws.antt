@@ -101,7 +101,7 @@ module _ (I : Input) (T : Tiling) (inks cpp₀ cpp : List Float) (t : T ≡ tili
   pub field_length : (cpe : List Float) → cpe ≡ field_of T (scene I.pixels I.indices I.pinned inks) cpp → length cpe ≡ 3 * (T.height * T.width)
   field_length cpe e = rw e (length_field T (scene I.pixels I.indices I.pinned inks) cpp)
 
-  pub error_is : (cpe : List Float) → cpe ≡ cpe_of I cpp₀ → initial_error T (scene I.pixels I.indices I.pinned inks) cpe ≡ error_of I cpp₀
+  pub error_is : (cpe : List Float) → cpe ≡ cpe_of I cpp₀ → initial_error T.width T.height (scene I.pixels I.indices I.pinned inks) cpe ≡ error_of I cpp₀
   unfolding error_of scene_of inks_of
   error_is cpe e = rw (t, i, e)
 
@@ -116,10 +116,15 @@ module _ (I : Input) (T : Tiling) (inks cpp₀ cpp : List Float) (t : T ≡ tili
 -- ---- what was built
 
 module _ (I : Input) (T : Tiling) (inks cpp₀ cpp cpe : List Float) (t : T ≡ tiling_of I) (b : Built I cpp₀ inks cpp cpe) where
+  -- its inks are as many as the palette's
+  pub built_inks : judge (input_tests I) ≡ accepted → length inks / 3 ≡ ink_count I
+  unfolding inks_of
+  built_inks ok = rw b.inks_is (omega (arith, inks_length I ok))
+
   -- the walk can start from it
-  pub built_ready : judge (input_tests I) ≡ accepted → length cpp₀ ≡ cpp_length → Ready (shared T (length I.palette / 3) I.pinned inks cpp) (image T) (length cpe) I.indices
-  unfolding shared_of ink_count
-  built_ready ok e = rw (t, b.inks_is, b.cpp_is, b.cpe_is) (start_ready I ok cpp₀ e)
+  pub built_ready : judge (input_tests I) ≡ accepted → length cpp₀ ≡ cpp_length → Ready (shared T (length inks / 3) I.pinned inks cpp) (image T) (length cpe) I.indices
+  unfolding shared_of
+  built_ready ok e = rw (built_inks ok, t, b.inks_is, b.cpp_is, b.cpe_is) (start_ready I ok cpp₀ e)
 
   -- and the initial error is worked out from it
   pub built_scene : judge (input_tests I) ≡ accepted → SceneFits T.width T.height (scene I.pixels I.indices I.pinned inks)
@@ -130,7 +135,7 @@ module _ (I : Input) (T : Tiling) (inks cpp₀ cpp cpe : List Float) (t : T ≡ 
   unfolding cpe_of
   built_room = rw (b.cpe_is, t) (length_field (tiling_of I) (scene_of I) (cpp_of I cpp₀))
 
-  pub built_error : initial_error T (scene I.pixels I.indices I.pinned inks) cpe ≡ error_of I cpp₀
+  pub built_error : initial_error T.width T.height (scene I.pixels I.indices I.pinned inks) cpe ≡ error_of I cpp₀
   unfolding inks_of cpp_of
   built_error = error_is I T inks cpp₀ cpp t b.inks_is b.cpp_is cpe b.cpe_is
 

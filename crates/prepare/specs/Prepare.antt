@@ -27,7 +27,7 @@ unfoldable pub cpe_of : Input → List Float → List Float
 cpe_of I cpp = field_of (tiling_of I) (scene_of I) (cpp_of I cpp)
 
 unfoldable pub error_of : Input → List Float → Float
-error_of I cpp = initial_error (tiling_of I) (scene_of I) (cpe_of I cpp)
+error_of I cpp = initial_error (tiling_of I).width (tiling_of I).height (scene_of I) (cpe_of I cpp)
 
 -- what every tile reads
 unfoldable pub shared_of : Input → List Float → Shared

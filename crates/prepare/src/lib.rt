@@ -11,6 +11,7 @@ use input::Input;
 use tiling::Tiling;
 
 // Ink values, kernels and `cpe` into the lent buffers.
+// Kept: what is asked is of the lengths of three lent buffers, each of which is borrowed apart: a struct would borrow all three.
 pub fn build(given: Input<'_>, t: Tiling, inks: &mut [f64], cpp: &mut [f64], cpe: &mut [f64])
     requires { ReadyToPrepare (input_of given) t (length inks.old) (length cpp.old) (length cpe.old) }
     ensures { Built (input_of given.entry) cpp.old inks.new cpp.new cpe.new }
@@ -40,6 +41,7 @@ pub fn prepare(
     ensures { Prepared (input_of given.entry) cpp.old inks.new cpp.new cpe.new result }
 {
     build(given, t, inks, cpp, cpe);
+    // Kept: as in `build`, which has lent the ink values out anew; a function that makes it would ask three clauses and give two.
     let scene = Scene {
         width: t.width,
         height: t.height,
@@ -48,5 +50,5 @@ pub fn prepare(
         pinned: given.pinned,
         inks,
     };
-    scene.initial_error(cpe, t)
+    scene.initial_error(cpe)
 }

@@ -4,7 +4,6 @@
 ghost use Rattle.std.specs.Prelude.{◌≡◌};
 ghost use Rattle.std.specs.Result.{result_unwrap_or};
 ghost use Rattle.base.specs.Answer.{status_of};
-ghost use Rattle.progress.specs.Progress.{progress_of};
 ghost use Rattle.tile.specs.Tile.{state};
 ghost use Rattle.job.specs.Copy.{pixels};
 ghost use Rattle.job.specs.PutBack.{put_back, put_back_of};
@@ -12,6 +11,8 @@ ghost use Rattle.job.specs.Boundary.{put_back_run};
 
 use base::{Index, Refusal};
 use job::{JobRecord, TileState};
+use progress::Progress;
+use tiling::Tiles;
 
 // Write a copy back over its region, with the count and delta that work answered.
 fn put_back(
@@ -23,10 +24,9 @@ fn put_back(
     deltas: &mut [f64],
     copy_cpe: &[f64],
     copy_indices: &[Index],
-    accepted: u64,
-    delta: f64,
+    progress: Progress,
 ) -> Result<JobRecord, Refusal>
-    ensures { put_back (status_of result) (result_unwrap_or result r) (pixels cpe.new indices.new) tile_states.new deltas.new ≡ put_back_of r tile (pixels cpe.old indices.old) tile_states.old deltas.old (state copy_cpe.now copy_indices.now (progress_of accepted delta)) }
+    ensures { put_back (status_of result) (result_unwrap_or result r) (pixels cpe.new indices.new) tile_states.new deltas.new ≡ put_back_of r tile (pixels cpe.old indices.old) tile_states.old deltas.old (state copy_cpe.now copy_indices.now progress) }
 {
     putbacktests::check_put_back(
         r,
@@ -37,20 +37,24 @@ fn put_back(
         deltas,
         copy_cpe,
         copy_indices,
-        accepted,
-        delta,
+        progress,
     )?;
     let plan = r.plan;
+    let t = Tiles {
+        tiling: plan.tiling,
+    };
     let i = tile as usize;
-    regions::write_region(plan.tiling, i, indices, cpe, copy_cpe, copy_indices);
+    regions::write_region(t, i, indices, cpe, copy_cpe, copy_indices);
     tile_states[i] = u8::from(TileState::Back);
-    deltas[i] = delta;
-    let mut record = r;
-    record.accepted = r.accepted + accepted;
-    Ok(record)
+    deltas[i] = progress.delta;
+    Ok(JobRecord {
+        accepted: r.accepted + progress.accepted as u64,
+        ..r
+    })
 }
 
 // The same on the run that the record is for a C host.
+#[tactic(auto, using(words::proofs::RunLaws::unread, words::proofs::RunLaws::read, written::proofs::Laws::after, written::proofs::Laws::not_after), unfolding(job::specs::Boundary::put_back_run, job::specs::Boundary::put_back_over))]
 pub fn put_back_run(
     record: &mut [u64],
     tile: u64,
@@ -60,10 +64,9 @@ pub fn put_back_run(
     deltas: &mut [f64],
     copy_cpe: &[f64],
     copy_indices: &[Index],
-    accepted: u64,
-    delta: f64,
+    progress: Progress,
 ) -> Result<(), Refusal>
-    ensures { put_back (status_of result) «record».new (pixels cpe.new indices.new) tile_states.new deltas.new ≡ put_back_run «record».old tile (pixels cpe.old indices.old) tile_states.old deltas.old (state copy_cpe.now copy_indices.now (progress_of accepted delta)) }
+    ensures { put_back (status_of result) «record».new (pixels cpe.new indices.new) tile_states.new deltas.new ≡ put_back_run «record».old tile (pixels cpe.old indices.old) tile_states.old deltas.old (state copy_cpe.now copy_indices.now progress) }
 {
     let r = words::read(record)?;
     let back = put_back(
@@ -75,8 +78,7 @@ pub fn put_back_run(
         deltas,
         copy_cpe,
         copy_indices,
-        accepted,
-        delta,
+        progress,
     )?;
     written::rewrite(record, back);
     Ok(())

@@ -16,13 +16,12 @@ use job::{JobRecord, TileState};
 fn check_recall(r: JobRecord, tile: u64, tile_states: &[u8]) -> Result<(), Refusal>
     ensures { status_of result ≡ judge (recall_tests r tile tile_states.now) }
 {
-    let plan = r.plan;
-    records::check_record(r)?;
-    records::check_turn(r, tile)?;
+    let job = records::check_record(r)?;
+    job.check_turn(tile)?;
     check_length(
         Buffer::TileStates,
         tile_states.len(),
-        plan.tiling.tile_count(),
+        job.tiles().tile_count(),
     )?;
     records::check_state(tile_states, tile as usize, TileState::Out)
 }
@@ -37,6 +36,7 @@ fn recall(r: JobRecord, tile: u64, tile_states: &mut [u8]) -> Result<(), Refusal
 }
 
 // The same on the run that the record is for a C host, which is only read.
+#[tactic(auto, using(words::proofs::RunLaws::unread, words::proofs::RunLaws::read), unfolding(job::specs::Boundary::recall_run))]
 pub fn recall_run(record: &[u64], tile: u64, tile_states: &mut [u8]) -> Result<(), Refusal>
     ensures { recalled (status_of result) tile_states.new ≡ recall_run «record».now tile tile_states.old }
 {

@@ -3,10 +3,11 @@
 
 ghost use Rattle.std.specs.Prelude.{◌≡◌};
 ghost use Rattle.input.specs.Input.{input};
+ghost use Rattle.accepted.specs.Accepted.{answer_of};
 ghost use Rattle.refine.specs.Refine.{refinement, refine_of};
 
-use accepted::DbsStats;
-use base::Index;
+use accepted::Stats;
+use base::{Index, Refusal};
 use eye::DbsParams;
 use input::Input;
 
@@ -24,8 +25,8 @@ pub fn refine(
     cpp: &mut [f64],
     accepted_per_pass: &mut [u32],
     inks: &mut [f64],
-) -> DbsStats
-    ensures { refinement result indices.new cpe.new cpp.new accepted_per_pass.new inks.new ≡ refine_of (input width height pixels.now palette.now indices.old pinned.now params) max_passes cpe.old cpp.old accepted_per_pass.old inks.old }
+) -> Result<Stats, Refusal>
+    ensures { refinement (answer_of result) indices.new cpe.new cpp.new accepted_per_pass.new inks.new ≡ refine_of (input width height pixels.now palette.now indices.old pinned.now params) max_passes cpe.old cpp.old accepted_per_pass.old inks.old }
 {
     let given = Input {
         width,
@@ -36,11 +37,8 @@ pub fn refine(
         pinned,
         params,
     };
-    let tiling = match sizes::check_refine(given, max_passes, cpe, cpp, accepted_per_pass, inks) {
-        Ok(tiling) => tiling,
-        Err(refusal) => return DbsStats::from(refusal),
-    };
-    accepted::refine_accepted(
+    let tiling = sizes::check_refine(given, max_passes, cpe, cpp, accepted_per_pass, inks)?;
+    Ok(accepted::refine_accepted(
         pixels,
         palette,
         indices,
@@ -51,5 +49,5 @@ pub fn refine(
         cpp,
         accepted_per_pass,
         inks,
-    )
+    ))
 }

@@ -1,4 +1,4 @@
--- A region copied over the whole of a copy is the copy; a copy's whole written over the region is what comes back. Assumes nothing.
+-- A copy's whole written over the region is what comes back. Assumes nothing.
 use Prim.Native.Nat.{ℕ, ◌*◌}
 use mathlib.Core.Path.{◌≡◌}
 use mathlib.Core.List.{List}
@@ -6,18 +6,10 @@ use lib.ListN.{length}
 use lib.Ieee.{Float, nan}
 use Rattle.base.specs.declared.Rect.{Rect}
 use Rattle.base.specs.Grid.{area, crop, paste}
-use Rattle.base.proofs.GridLaws.{length-crop}
-use Rattle.copy.proofs.Parts.{paste_whole, crop_whole}
+use Rattle.copy.proofs.Parts.{crop_whole}
 use Rattle.tiling.specs.declared.Tiling.{Tiling}
 use Rattle.tiling.specs.Tiling.{image, region}
-use Rattle.job.specs.Copy.{pixels, copy_of, written_back}
-
-pub copied :
-    (T : Tiling) (t : ℕ) (P W : Rect) → P ≡ image T → W ≡ region T t → (f room after : List Float) → after ≡ paste nan 3 W W room (crop nan 3 P W f)
-    → (i places done : List ℕ) → done ≡ paste 0 1 W W places (crop 0 1 P W i) → pixels after done ≡ copy_of T t (pixels f i)
-unfolding copy_of
-copied T t P W p w f room after a i places done d =
-    rw (a, d, paste_whole nan 3 W room (crop nan 3 P W f) (length-crop nan 3 P W f), paste_whole 0 1 W places (crop 0 1 P W i) (length-crop 0 1 P W i), p, w)
+use Rattle.job.specs.Copy.{pixels, written_back}
 
 pub written :
     (T : Tiling) (t : ℕ) (P W : Rect) → P ≡ image T → W ≡ region T t → (f room after : List Float) → length room ≡ 3 * area W → after ≡ paste nan 3 P W f (crop nan 3 W W room)

@@ -4,47 +4,47 @@
 
 ghost use Rattle.std.specs.Prelude.{◌≡◌, ◌*◌, ◌<◌, length};
 ghost use Rattle.base.specs.Grid.{area};
-ghost use Rattle.tiling.specs.Tiling.{Limits, tiles, region};
+ghost use Rattle.tiling.specs.Tiling.{tiles, region};
 ghost use Rattle.job.specs.Copy.{pixels, copy_of, written_back};
 
 use base::Index;
-use tiling::Tiling;
+use tiling::Tiles;
 
 // The region of a tile into both copies.
+// Kept: `cpe` and `indices` go apart, as the host lends them: a struct of two `&mut` would be made anew at each call.
 pub fn copy_region(
-    t: Tiling,
+    t: Tiles,
     tile: usize,
     indices: &[Index],
     cpe: &[f64],
     copy_cpe: &mut [f64],
     copy_indices: &mut [Index],
 )
-    requires limits { Limits t × (tile < tiles t) }
-    requires cpe_len { (length cpe.now ≡ 3 * (t.height * t.width)) × (length indices.now ≡ t.height * t.width) }
-    requires copy_cpe_len { (length copy_cpe.old ≡ 3 * area (region t tile)) × (length copy_indices.old ≡ area (region t tile)) }
-    ensures { pixels copy_cpe.new copy_indices.new ≡ copy_of t tile (pixels cpe.now indices.now) }
+    requires tile_bound { tile < tiles t.tiling }
+    requires cpe_len { (length cpe.now ≡ 3 * (t.tiling.height * t.tiling.width)) × (length indices.now ≡ t.tiling.height * t.tiling.width) }
+    requires copy_cpe_len { (length copy_cpe.old ≡ 3 * area (region t.tiling tile)) × (length copy_indices.old ≡ area (region t.tiling tile)) }
+    ensures { pixels copy_cpe.new copy_indices.new ≡ copy_of t.tiling tile (pixels cpe.now indices.now) }
 {
-    let image = t.image_rect();
+    let image = t.tiling.image_rect();
     let region = t.region_rect(tile);
-    copy::copy_part(3, cpe, image, copy_cpe, region, region);
-    copy::copy_part(1, indices, image, copy_indices, region, region);
+    copy::copy_out(cpe, indices, image, region, copy_cpe, copy_indices);
 }
 
 // The copies over the region of a tile.
 pub fn write_region(
-    t: Tiling,
+    t: Tiles,
     tile: usize,
     indices: &mut [Index],
     cpe: &mut [f64],
     copy_cpe: &[f64],
     copy_indices: &[Index],
 )
-    requires limits { Limits t × (tile < tiles t) }
-    requires cpe_len { (length cpe.old ≡ 3 * (t.height * t.width)) × (length indices.old ≡ t.height * t.width) }
-    requires copy_cpe_len { (length copy_cpe.now ≡ 3 * area (region t tile)) × (length copy_indices.now ≡ area (region t tile)) }
-    ensures { pixels cpe.new indices.new ≡ written_back t tile (pixels cpe.old indices.old) (pixels copy_cpe.now copy_indices.now) }
+    requires tile_bound { tile < tiles t.tiling }
+    requires cpe_len { (length cpe.old ≡ 3 * (t.tiling.height * t.tiling.width)) × (length indices.old ≡ t.tiling.height * t.tiling.width) }
+    requires copy_cpe_len { (length copy_cpe.now ≡ 3 * area (region t.tiling tile)) × (length copy_indices.now ≡ area (region t.tiling tile)) }
+    ensures { pixels cpe.new indices.new ≡ written_back t.tiling tile (pixels cpe.old indices.old) (pixels copy_cpe.now copy_indices.now) }
 {
-    let image = t.image_rect();
+    let image = t.tiling.image_rect();
     let region = t.region_rect(tile);
     copy::copy_part(3, copy_cpe, region, cpe, image, region);
     copy::copy_part(1, copy_indices, region, indices, image, region);

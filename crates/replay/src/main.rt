@@ -8,30 +8,40 @@ use given::Job;
 use lines::Line;
 use std::io::{self, Print, Read};
 
+// A line of a list behind its open.
+fn list_line(rt: &impl Print, line: Line<'_>, job: &mut Job) -> io::Result<()> {
+    match line.kind() {
+        b"take" => lists::take(rt, line, job)?,
+        b"work" => lists::work(rt, line, job)?,
+        b"put_back" => lists::put_back(rt, line, job)?,
+        b"recall" => lists::recall(rt, line, job)?,
+        b"close" => lists::close(rt, line, job)?,
+        b"word" => lists::set_word(line, job),
+        _ => lists::set_index(line, job),
+    }
+    Ok(())
+}
+
 // A list begins with an open and finds each cell of every buffer set. Lines behind a call, up to the next open, are passed over.
 fn all_lines(rt: &impl Print, text: &[u8]) -> io::Result<()> {
-    let mut job = Job::new();
-    let mut in_list = true;
+    let mut list = Some(Job::new());
     for text in text.split(|b| *b == b'\n') {
         let line = Line::new(text);
         match line.kind() {
             b"call" => {
-                in_list = false;
+                list = None;
                 calls::call(rt, line)?;
             }
             b"open" => {
-                in_list = true;
-                job = Job::new();
+                let mut job = Job::new();
                 opens::open(rt, line, &mut job)?;
+                list = Some(job);
             }
-            _ if !in_list => {}
-            b"take" => lists::take(rt, line, &mut job)?,
-            b"work" => lists::work(rt, line, &mut job)?,
-            b"put_back" => lists::put_back(rt, line, &mut job)?,
-            b"recall" => lists::recall(rt, line, &mut job)?,
-            b"close" => lists::close(rt, line, &mut job)?,
-            b"word" => lists::set_word(line, &mut job),
-            _ => lists::set_index(line, &mut job),
+            _ => {
+                if let Some(job) = &mut list {
+                    list_line(rt, line, job)?;
+                }
+            }
         }
     }
     Ok(())

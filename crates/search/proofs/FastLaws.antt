@@ -8,7 +8,7 @@ use native.Mathlib.Omega.{arith}
 use borrow.Author.Tests.{lt-ltb, le-ltb, eq-eqb}
 use lib.Dec.{eqb}
 use lib.ListN.{get_or, length}
-use lib.Ieee.{Float, nan}
+use lib.Ieee.{Float}
 use Rattle.base.specs.declared.Rect.{Rect}
 use Rattle.base.specs.Limits.{max_inks}
 use Rattle.base.specs.Grid.{Inside, cell}
@@ -22,16 +22,15 @@ use Rattle.neighbour.specs.Neighbour.{neighbour_of}
 use Rattle.std.specs.Prelude.{Option, Some, None}
 use Rattle.pins.specs.Pins.{pinned_at}
 use Rattle.tiling.specs.declared.Tiling.{Tiling}
-use Rattle.cpp.specs.Kernel.{lum_kernel, chroma_kernel}
 use Rattle.tables.specs.declared.Tables.{Tables}
-use Rattle.tables.specs.Tables.{gap_of, tables_of}
+use Rattle.tables.specs.Tables.{tables_of}
 use Rattle.places.specs.Places.{Held, place_of, unpinned, place_by, partner_place, Findable}
 use Rattle.places.proofs.Window.{place_index, area_limit, held_inside, neighbour_inside}
 use Rattle.search.specs.declared.Best.{Best}
 use Rattle.search.specs.declared.Site.{Site}
 use Rattle.search.specs.declared.Move.TheVariants.{Toggle, Swap}
 use Rattle.search.specs.Shared.{Shared, ink_at, cpe_at, index_at, Ready}
-use Rattle.search.specs.Search.{centres, gaps, swap_cost, better_of, eligible, partner_of, swap_with, try_swap, swaps, no_move, try_toggle, toggles, evaluate_of}
+use Rattle.search.specs.Search.{gaps, swap_cost, better_of, eligible, partner_of, swap_with, try_swap, swaps, no_move, try_toggle, toggles, evaluate_of}
 use Rattle.search.specs.Fast.{move_of, swap_by, gaps_at, swaps_by, SwapFits, AllFit}
 use Rattle.search.proofs.Window.{cpe_values, ready_limits}
 
@@ -51,7 +50,7 @@ move_swap code h =
 pub findable : {S : Shared} {n : ℕ} {indices : List ℕ} (tab : Tables) → Ready S tab.w n indices → tab ≡ tables_of S.cpp S.tiling tab.w → Findable S.pinned S.tiling tab
 unfolding tables_of
 findable tab r e =
-    record { limits = r.limits; within = r.within; mask = r.mask; steps = ap (λ (u : Tables). u.steps) e; marks = ap (λ (u : Tables). u.marks) e }
+    record { limits = r.limits; within = r.within; mask = r.mask; steps = ap (λ (u : Tables). u.steps) e }
 
 -- ---- where a partner stands: in the window
 
@@ -83,8 +82,8 @@ module _ {S : Shared} {W : Rect} {cpe : List Float} {indices : List ℕ} (r : Re
 -- ---- swaps by places are swaps by code
 
 gaps_are : (cpp : List Float) (T : Tiling) (W : Rect) (code : ℕ) → code < 8 → gaps_at (tables_of cpp T W) code ≡ gaps cpp T code
-unfolding gaps centres tables_of
-gaps_are cpp T W code h = rw (get_d_table 8 (gap_of cpp (lum_kernel T)) code nan h, get_d_table 8 (gap_of cpp (chroma_kernel T)) code nan h)
+unfolding tables_of
+gaps_are cpp T W code h = get_d_table 8 (gaps cpp T) code _ h
 
 index_by : (W : Rect) (indices : List ℕ) (nx ny : ℕ) → index_at W indices nx ny ≡ get_or indices (place_of W nx ny) 0
 unfolding cell

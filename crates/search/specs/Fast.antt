@@ -37,7 +37,7 @@ swap_by inks cpe indices g s n code b =
 
 -- the kernels at their centres less next to them, by code
 abbrev pub gaps_at : Tables → ℕ → YyCxCz
-gaps_at tab code = record { yy = get_or tab.lum code nan; cx = get_or tab.chroma code nan; cz = get_or tab.chroma code nan }
+gaps_at tab code = get_or tab.gaps code (record { yy = nan; cx = nan; cz = nan })
 
 -- codes 0 to n - 1, each with the pixel at its place
 unfoldable pub swaps_by : List Float → List Float → List ℕ → Tables → List ℕ → Site → ℕ → Best → Best

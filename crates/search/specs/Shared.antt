@@ -1,5 +1,5 @@
 -- What every tile reads and none changes (`Shared` of dbs.rs), and how the values of a pixel are read.
-use Rattle.std.specs.Prelude.{◌≡◌, List, ℕ, ◌*◌, ◌<◌, ◌≤◌, get_or, length, Float}
+use Rattle.std.specs.Prelude.{◌≡◌, List, ℕ, ◌*◌, ◌/◌, ◌<◌, ◌≤◌, get_or, length, Float}
 use Rattle.std.specs.Float.{nan}
 use Rattle.base.specs.declared.Rect.{Rect}
 use Rattle.base.specs.Limits.{max_inks, cpp_length}
@@ -23,7 +23,7 @@ shared T count pinned inks cpp = record { tiling = T; count = count; pinned = pi
 
 -- the same of what the code has
 abbrev pub shared_of : Setup → Shared
-shared_of s = shared s.tiling s.count s.pinned.now s.inks.now s.cpp.now
+shared_of s = shared s.tiling (length s.inks.now / 3) s.pinned.now s.inks.now s.cpp.now
 
 -- ink j
 abbrev pub ink_at : Shared → ℕ → YyCxCz

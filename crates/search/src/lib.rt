@@ -2,7 +2,7 @@
 // Coordinates are the image's; `cpe` and `indices` hold the pixels of the window.
 #![tactic(auto)]
 
-ghost use Rattle.std.specs.Prelude.{◌≡◌, ◌+◌, ◌-◌, ◌*◌, ◌<◌, ◌≤◌, length};
+ghost use Rattle.std.specs.Prelude.{◌≡◌, ◌+◌, ◌-◌, ◌*◌, ◌/◌, ◌<◌, ◌≤◌, length};
 ghost use Rattle.base.specs.Limits.{max_side, max_inks};
 ghost use Rattle.base.specs.Grid.{Inside, area};
 ghost use Rattle.base.specs.Loop.{up_to};
@@ -13,6 +13,7 @@ ghost use Rattle.search.specs.Search.{better_of, no_move, try_toggle, evaluate_o
 
 use base::{Index, MAX_INKS, Rect};
 use color::YyCxCz;
+use places::Around;
 use tables::Tables;
 use tiling::Tiling;
 
@@ -47,15 +48,24 @@ pub struct Site {
     pub c: YyCxCz,
 }
 
-// What every tile has in common and none changes: the image with its kernels' radii, the number of inks,
-// the pin mask, the ink values and the kernel store.
+// What every tile has in common and none changes: the image with its kernels' radii, the pin mask,
+// the ink values, 3 an ink, and the kernel store.
+// Kept: no ghost field has what `Ready` says of these alone: each contract would still name the other half of it, of
+// the window and its two lists, in as many words, and each proof would join the two.
 #[derive(Clone, Copy)]
 pub struct Setup<'a> {
     pub tiling: Tiling,
-    pub count: usize,
     pub pinned: &'a [u8],
     pub inks: &'a [f64],
     pub cpp: &'a [f64],
+}
+
+// The same with the tables of a window.
+#[derive(Clone, Copy)]
+pub struct Tabled<'a> {
+    pub setup: Setup<'a>,
+    pub tab: Tables,
+    pub ghost made: { tab ≡ tables_of setup.cpp.now setup.tiling tab.w },
 }
 
 // The index of a pixel of the window.
@@ -67,7 +77,7 @@ pub fn index_at(indices: &[Index], w: Rect, x: usize, y: usize) -> usize
     ensures { result ≡ index_at w indices.now x y }
 {
     let m = places::local(w, x, y);
-    indices[m] as usize
+    usize::from(indices[m])
 }
 
 // `cpe` at a pixel of the window.
@@ -81,147 +91,150 @@ pub fn cpe_at(cpe: &[f64], w: Rect, x: usize, y: usize) -> YyCxCz
     color::values_at(cpe, base::place(3, w, x, y))
 }
 
-// The move that a number stands for.
-#[tactic(auto, unfolding(crate::specs::Fast::move_of))]
-fn move_of(pick: usize) -> Move
-    ensures { result ≡ move_of pick }
-{
-    if pick < MAX_INKS {
-        return Move::Toggle(pick);
-    }
-    if pick < MAX_INKS + 8 {
-        return Move::Swap((pick - MAX_INKS) as u8);
-    }
-    Move::Stay
-}
+// The move that the number stands for, with its cost.
+impl From<Choice> for Best {
+    ghost from_gives = { λ c b. b ≡ best_of c };
 
-// Only a smaller cost replaces the best.
-#[tactic(auto, unfolding(crate::specs::Fast::best_of))]
-fn better(b: Choice, cost: f64, pick: usize) -> Choice
-    ensures { best_of result ≡ better_of (best_of b) cost (move_of pick) }
-{
-    if cost < b.cost {
-        return Choice { cost, pick };
-    }
-    b
-}
-
-// Ink j in the place of the pixel's, if it is another. p: the kernels at their centres; v: the pixel's ink.
-#[tactic(auto, using(crate::proofs::FastLaws::move_toggle), unfolding(crate::specs::Search::try_toggle))]
-fn try_toggle(inks: &[f64], p: YyCxCz, s: Site, v: YyCxCz, j: usize, b: Choice) -> Choice
-    requires inked { Inked inks.now s v }
-    requires j_in_bounds { (3 * j + 2 < length inks.now) × (j < max_inks) }
-    ensures { best_of result ≡ try_toggle inks.now p s j (best_of b) }
-{
-    if j == s.k {
-        return b;
-    }
-    let a = color::values_at(inks, 3 * j) - v;
-    better(b, cost::toggle_cost(p, a, s.c), j)
-}
-
-// The best toggle: inks in ascending order.
-#[tactic(auto, using(base::proofs::LoopLaws::up_to_none, base::proofs::LoopLaws::up_to_more))]
-fn best_toggle(inks: &[f64], p: YyCxCz, count: usize, s: Site, v: YyCxCz, b: Choice) -> Choice
-    requires inked { Inked inks.now s v }
-    requires inks_len { (length inks.now ≡ 3 * count) × (count ≤ max_inks) }
-    ensures { best_of result ≡ up_to (try_toggle inks.now p s) count (best_of b) }
-{
-    let mut best = b;
-    for j in 0..count {
-        best = try_toggle(inks, p, s, v, j, best);
-    }
-    best
-}
-
-// The swap with the pixel at place n of the window, if it has another ink. g: the kernels at their centres less beside them.
-#[tactic(auto, using(crate::proofs::FastLaws::move_swap), unfolding(crate::specs::Fast::swap_by))]
-fn swap_at(
-    cpe: &[f64],
-    indices: &[Index],
-    inks: &[f64],
-    g: YyCxCz,
-    n: usize,
-    s: Site,
-    v: YyCxCz,
-    code: usize,
-    b: Choice,
-) -> Choice
-    requires inked { Inked inks.now s v }
-    requires swap_fits { SwapFits cpe.now indices.now inks.now n }
-    requires code_bound { code < 8 }
-    ensures { best_of result ≡ swap_by inks.now cpe.now indices.now g s n code (best_of b) }
-{
-    let kn = indices[n] as usize;
-    if kn == s.k {
-        return b;
-    }
-    let a = color::values_at(inks, 3 * kn) - v;
-    let cn = color::values_at(cpe, 3 * n);
-    better(b, cost::swap_cost(g, a, s.c, cn), MAX_INKS + code)
-}
-
-// The best swap: neighbours by code, each at its place.
-#[tactic(auto, using(base::proofs::LoopLaws::up_to_none, base::proofs::LoopLaws::up_to_more), unfolding(crate::specs::Fast::swaps_by))]
-fn best_swap(
-    cpe: &[f64],
-    indices: &[Index],
-    inks: &[f64],
-    tab: Tables,
-    places: &[usize; 8],
-    s: Site,
-    v: YyCxCz,
-    b: Choice,
-) -> Choice
-    requires inked { Inked inks.now s v }
-    requires all_fit { AllFit cpe.now indices.now inks.now places.now }
-    ensures { best_of result ≡ swaps_by inks.now cpe.now indices.now tab places.now s 8 (best_of b) }
-{
-    let mut best = b;
-    for code in 0..8 {
-        let g = YyCxCz {
-            yy: tab.lum[code],
-            cx: tab.chroma[code],
-            cz: tab.chroma[code],
+    #[tactic(auto, unfolding(crate::specs::Fast::best_of, crate::specs::Fast::move_of))]
+    fn from(c: Choice) -> Best {
+        let mv = if c.pick < MAX_INKS {
+            Move::Toggle(c.pick)
+        } else if c.pick < MAX_INKS + 8 {
+            Move::Swap((c.pick - MAX_INKS) as u8)
+        } else {
+            Move::Stay
         };
-        best = swap_at(cpe, indices, inks, g, places[code], s, v, code, best);
+        Best { cost: c.cost, mv }
     }
-    best
+}
+
+impl Choice {
+    // Only a smaller cost replaces the best.
+    #[tactic(auto, unfolding(crate::specs::Fast::best_of))]
+    fn better(self, cost: f64, pick: usize) -> Choice
+        ensures { best_of result ≡ better_of (best_of self) cost (move_of pick) }
+    {
+        if cost < self.cost {
+            return Choice { cost, pick };
+        }
+        self
+    }
+}
+
+// A pixel whose moves are weighed, with the ink values and the pixel's ink among them.
+#[derive(Clone, Copy)]
+struct Weighed<'a> {
+    inks: &'a [f64],
+    site: Site,
+    ink: YyCxCz,
+    ghost inked: { Inked inks.now site ink },
+}
+
+impl<'a> Weighed<'a> {
+    // Ink j in the place of the pixel's, if it is another. p: the kernels at their centres.
+    #[tactic(auto, using(crate::proofs::FastLaws::move_toggle), unfolding(crate::specs::Search::try_toggle))]
+    fn try_toggle(self, p: YyCxCz, j: usize, b: Choice) -> Choice
+        requires { (3 * j + 2 < length self.inks.now) × (j < max_inks) }
+        ensures { best_of result ≡ try_toggle self.entry.inks.now p self.entry.site j (best_of b) }
+    {
+        if j == self.site.k {
+            return b;
+        }
+        let a = color::values_at(self.inks, 3 * j) - self.ink;
+        b.better(cost::toggle_cost(p, a, self.site.c), j)
+    }
+
+    // The best toggle: inks in ascending order.
+    #[tactic(auto, using(base::proofs::LoopLaws::up_to_none, base::proofs::LoopLaws::up_to_more))]
+    fn best_toggle(self, p: YyCxCz, b: Choice) -> Choice
+        requires { length self.inks.now ≤ 3 * max_inks }
+        ensures { best_of result ≡ up_to (try_toggle self.entry.inks.now p self.entry.site) (length self.entry.inks.now / 3) (best_of b) }
+    {
+        let mut best = b;
+        for j in 0..self.inks.len() / 3 {
+            best = self.try_toggle(p, j, best);
+        }
+        best
+    }
+
+    // The swap with the pixel at place n of the window, if it has another ink. g: the kernels at their centres less beside them.
+    // Kept: `code < 8` in a clause: a type of codes would be made of the number that the loop counts with, and read as
+    // that number here.
+    #[tactic(auto, using(crate::proofs::FastLaws::move_swap), unfolding(crate::specs::Fast::swap_by))]
+    fn swap_at(
+        self,
+        cpe: &[f64],
+        indices: &[Index],
+        g: YyCxCz,
+        n: usize,
+        code: usize,
+        b: Choice,
+    ) -> Choice
+        requires swap_fits { SwapFits cpe.now indices.now self.inks.now n }
+        requires code_bound { code < 8 }
+        ensures { best_of result ≡ swap_by self.entry.inks.now cpe.now indices.now g self.entry.site n code (best_of b) }
+    {
+        let kn = usize::from(indices[n]);
+        if kn == self.site.k {
+            return b;
+        }
+        let a = color::values_at(self.inks, 3 * kn) - self.ink;
+        let cn = color::values_at(cpe, 3 * n);
+        b.better(cost::swap_cost(g, a, self.site.c, cn), MAX_INKS + code)
+    }
+
+    // The best swap: neighbours by code, each at its place.
+    #[tactic(auto, using(base::proofs::LoopLaws::up_to_none, base::proofs::LoopLaws::up_to_more), unfolding(crate::specs::Fast::swaps_by))]
+    fn best_swap(
+        self,
+        cpe: &[f64],
+        indices: &[Index],
+        tab: Tables,
+        places: &[usize; 8],
+        b: Choice,
+    ) -> Choice
+        requires { AllFit cpe.now indices.now self.inks.now places.now }
+        ensures { best_of result ≡ swaps_by self.entry.inks.now cpe.now indices.now tab places.now self.entry.site 8 (best_of b) }
+    {
+        let mut best = b;
+        for (code, place) in places.iter().enumerate() {
+            best = self.swap_at(cpe, indices, tab.gaps[code], *place, code, best);
+        }
+        best
+    }
 }
 
 // The best move of pixel (x, y): toggles, then swaps. `-EPS` of dbs.rs is what a move has to beat. Of the kernel
 // store only the contract speaks, which the tables are of.
 #[tactic(auto, using(places::proofs::Window::held_inside))]
-pub fn evaluate(
-    cpe: &[f64],
-    indices: &[Index],
-    s: Setup<'_>,
-    tab: Tables,
-    x: usize,
-    y: usize,
-) -> Best
-    requires ready { Ready (shared_of s) tab.w (length cpe.now) indices.now }
-    requires held { Held s.tiling tab.w x y }
-    requires tab_value { tab ≡ tables_of s.cpp.now s.tiling tab.w }
-    ensures { result ≡ evaluate_of (shared_of s.entry) tab.w cpe.now indices.now x y no_move }
+pub fn evaluate(cpe: &[f64], indices: &[Index], s: Tabled<'_>, x: usize, y: usize) -> Best
+    requires ready { Ready (shared_of s.setup) s.tab.w (length cpe.now) indices.now }
+    requires held { Held s.setup.tiling s.tab.w x y }
+    ensures { result ≡ evaluate_of (shared_of s.entry.setup) s.entry.tab.w cpe.now indices.now x y no_move }
 {
+    let Tabled { setup, tab } = s;
     let w = tab.w;
-    let t = s.tiling;
+    let t = setup.tiling;
     let k = index_at(indices, w, x, y);
-    let site = Site {
-        k,
-        c: cpe_at(cpe, w, x, y),
+    let pixel = Weighed {
+        inks: setup.inks,
+        site: Site {
+            k,
+            c: cpe_at(cpe, w, x, y),
+        },
+        ink: color::values_at(setup.inks, 3 * k),
     };
-    let v = color::values_at(s.inks, 3 * k);
     let start = Choice {
         cost: -1e-9,
         pick: MAX_INKS + 8,
     };
-    let toggled = best_toggle(s.inks, tab.centre, s.count, site, v, start);
-    let places = places::places_of(s.pinned, t, tab, places::spot_of(t, w, x, y));
-    let best = best_swap(cpe, indices, s.inks, tab, &places, site, v, toggled);
-    Best {
-        cost: best.cost,
-        mv: move_of(best.pick),
-    }
+    let toggled = pixel.best_toggle(tab.centre, start);
+    let around = Around {
+        pinned: setup.pinned,
+        tiling: t,
+        tab,
+        spot: places::spot_of(t, w, x, y),
+    };
+    let places = around.places();
+    Best::from(pixel.best_swap(cpe, indices, tab, &places, toggled))
 }

@@ -13,7 +13,7 @@ ghost use Rattle.sizes.specs.Sizes.{tiling_of, sizes_of};
 
 use base::{Buffer, CPP_LEN, MAX_PASSES, Refusal, refuse_if};
 use input::{Input, check_length};
-use tiling::Tiling;
+use tiling::{Tiles, Tiling};
 
 // The tiling of an input, its number of tiles, and the lengths of its field and of its ink values.
 #[derive(Clone, Copy)]
@@ -37,13 +37,14 @@ fn check_sizes(given: Input<'_>) -> Result<Sizes, Refusal>
     };
     Ok(Sizes {
         tiling,
-        tiles: tiling.tile_count(),
+        tiles: Tiles { tiling }.tile_count(),
         field: 3 * (tiling.height * tiling.width),
         values: 3 * (given.palette.len() / 3),
     })
 }
 
 // Refusal 11 of buffers 1 and 2.
+// Kept: each call lends other buffers, so that a struct of those lent would be one for each call, made where they are named anyway.
 #[tactic(auto, unfolding(base::specs::Refusal::judge))]
 fn check_field(s: Sizes, cpe: &[f64], cpp: &[f64]) -> Result<(), Refusal>
     ensures { status_of result ≡ judge (length_test 1 (length cpe.now) s.field ∷ length_test 2 (length cpp.now) cpp_length ∷ []) }

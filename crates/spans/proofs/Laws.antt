@@ -92,32 +92,32 @@ lent_at b n i l h =
     let e : b + n - b ≡ n = omega arith in
     rw e (get_or-take n (drop b l) i nan h ∙ get_or-drop b l i nan)
 
-module _ (h : Channels) (a : YyCxCz) (cpp : List Float) (s : Span) (f : List Float) (z : Fits (length f) (length cpp) s) where
+module _ (h : Channels) (cpp : List Float) (s : Span) (f : List Float) (z : Fits (length f) (length cpp) s) where
   abbrev kernel : ℕ → List Float
   kernel from = mid_of from (from + s.pixels - from) cpp
 
-  pub span_row_is : put_mid s.at (s.at + 3 * s.pixels - s.at) f (add_pixels h a (kernel s.from) s.pixels (mid_of s.at (s.at + 3 * s.pixels - s.at) f)) ≡ span_of h a cpp s f
+  pub span_row_is : put_mid s.at (s.at + 3 * s.pixels - s.at) f (add_pixels h s.a (kernel s.from) s.pixels (mid_of s.at (s.at + 3 * s.pixels - s.at) f)) ≡ span_of h cpp s f
   unfolding add_pixels span_of
   span_row_is =
-      row_is _ (adds h a (kernel s.from)) (λ i. add_at h a (get_or cpp (s.from + i) nan) (s.at + 3 * i)) s.at s.pixels f
+      row_is _ (adds h s.a (kernel s.from)) (λ i. add_at h s.a (get_or cpp (s.from + i) nan) (s.at + 3 * i)) s.at s.pixels f
       (λ i l t. rw (lent_at s.from s.pixels i cpp l)) z.in_cpe
 
-  pub pair_span_is : (b : YyCxCz) (o : Span) → put_mid s.at (s.at + 3 * s.pixels - s.at) f (add_pairs h a b (kernel s.from) (kernel o.from) s.pixels (mid_of s.at (s.at + 3 * s.pixels - s.at) f)) ≡ pair_span h a b cpp s o f
+  pub pair_span_is : (o : Span) → put_mid s.at (s.at + 3 * s.pixels - s.at) f (add_pairs h s.a o.a (kernel s.from) (kernel o.from) s.pixels (mid_of s.at (s.at + 3 * s.pixels - s.at) f)) ≡ pair_span h cpp s o f
   unfolding add_pairs pair_span
-  pair_span_is b o =
-      row_is _ (then _ _ (adds h a (kernel s.from)) (adds h b (kernel o.from)))
-      (λ i t. add_at h b (get_or cpp (o.from + i) nan) (s.at + 3 * i) (add_at h a (get_or cpp (s.from + i) nan) (s.at + 3 * i) t)) s.at s.pixels f
+  pair_span_is o =
+      row_is _ (then _ _ (adds h s.a (kernel s.from)) (adds h o.a (kernel o.from)))
+      (λ i t. add_at h o.a (get_or cpp (o.from + i) nan) (s.at + 3 * i) (add_at h s.a (get_or cpp (s.from + i) nan) (s.at + 3 * i) t)) s.at s.pixels f
       (λ i l t. rw (lent_at s.from s.pixels i cpp l, lent_at o.from s.pixels i cpp l)) z.in_cpe
 
 -- a span of one pixel
-pub span_one : (h : Channels) (a : YyCxCz) (cpp : List Float) (s : Span) (f : List Float) → s.pixels ≡ 1 → add_at h a (get_or cpp s.from nan) s.at f ≡ span_of h a cpp s f
+pub span_one : (h : Channels) (cpp : List Float) (s : Span) (f : List Float) → s.pixels ≡ 1 → add_at h s.a (get_or cpp s.from nan) s.at f ≡ span_of h cpp s f
 unfolding span_of up_to
-span_one h a cpp s f e =
+span_one h cpp s f e =
     let t : s.at + 3 * 0 ≡ s.at = omega arith in
     let u : s.from + 0 ≡ s.from = omega arith in
     rw (e, t, u)
 
 -- an empty one
-pub span_none : (h : Channels) (a : YyCxCz) (cpp : List Float) (s : Span) (f : List Float) → s.pixels ≡ 0 → f ≡ span_of h a cpp s f
+pub span_none : (h : Channels) (cpp : List Float) (s : Span) (f : List Float) → s.pixels ≡ 0 → f ≡ span_of h cpp s f
 unfolding span_of up_to
-span_none h a cpp s f e = rw e
+span_none h cpp s f e = rw e

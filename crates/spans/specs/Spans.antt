@@ -15,13 +15,13 @@ add_pixels channels a kernel n f = up_to (λ i. add_at channels a (get_or kernel
 unfoldable pub add_pairs : Channels → YyCxCz → YyCxCz → List Float → List Float → ℕ → List Float → List Float
 add_pairs h a b kernel other n f = up_to (λ i g. add_at h b (get_or other i nan) (3 * i) (add_at h a (get_or kernel i nan) (3 * i) g)) n f
 
--- each pixel of a span grows by a times the kernel's value there
-unfoldable pub span_of : Channels → YyCxCz → List Float → Span → List Float → List Float
-span_of h a cpp s f = up_to (λ i. add_at h a (get_or cpp (s.from + i) nan) (s.at + 3 * i)) s.pixels f
+-- each pixel of a span grows by its multiple of the kernel's value there
+unfoldable pub span_of : Channels → List Float → Span → List Float → List Float
+span_of h cpp s f = up_to (λ i. add_at h s.a (get_or cpp (s.from + i) nan) (s.at + 3 * i)) s.pixels f
 
--- each pixel of the span s grows by a times the kernel's value there, then by b times its value along o
-unfoldable pub pair_span : Channels → YyCxCz → YyCxCz → List Float → Span → Span → List Float → List Float
-pair_span h a b cpp s o f = up_to (λ i g. add_at h b (get_or cpp (o.from + i) nan) (s.at + 3 * i) (add_at h a (get_or cpp (s.from + i) nan) (s.at + 3 * i) g)) s.pixels f
+-- each pixel of the span s grows by its multiple of the kernel's value there, then by that of o, of the value along o
+unfoldable pub pair_span : Channels → List Float → Span → Span → List Float → List Float
+pair_span h cpp s o f = up_to (λ i g. add_at h o.a (get_or cpp (o.from + i) nan) (s.at + 3 * i) (add_at h s.a (get_or cpp (s.from + i) nan) (s.at + 3 * i) g)) s.pixels f
 
 -- a span lies in so many values of `cpe` and of the kernel store
 pub record Fits (cpe cpp : ℕ) (s : Span) : Type 0 where

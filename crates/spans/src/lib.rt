@@ -15,9 +15,11 @@ pub enum Channels {
     Chrominance,
 }
 
-// Pixels side by side: their first value in `cpe`, their number, and their first value in the kernel store.
+// Pixels side by side that grow by a times a kernel's values: their first value in `cpe`, their number, and the
+// first of those values in the kernel store.
 #[derive(Clone, Copy)]
 pub struct Span {
+    pub a: YyCxCz,
     pub at: usize,
     pub pixels: usize,
     pub from: usize,
@@ -39,48 +41,41 @@ fn add_at(cpe: &mut [f64], j: usize, channels: Channels, a: YyCxCz, v: f64)
     }
 }
 
-// The pixels of a span grow by a times the kernel's values there.
+// The pixels of a span grow.
 #[tactic(auto, using(base::proofs::LoopLaws::up_to_none, base::proofs::LoopLaws::up_to_more), unfolding(crate::specs::Spans::add_pixels))]
-pub fn add_span(cpe: &mut [f64], cpp: &[f64], channels: Channels, a: YyCxCz, s: Span)
+pub fn add_span(cpe: &mut [f64], cpp: &[f64], channels: Channels, s: Span)
     requires { Fits (length cpe.old) (length cpp.now) s }
-    ensures { cpe.new ≡ span_of channels a cpp.now s cpe.old }
+    ensures { cpe.new ≡ span_of channels cpp.now s cpe.old }
 {
     let row = &mut cpe[s.at..s.at + 3 * s.pixels];
     let kernel = &cpp[s.from..s.from + s.pixels];
     for (i, v) in kernel.iter().enumerate() {
-        add_at(row, 3 * i, channels, a, *v);
+        add_at(row, 3 * i, channels, s.a, *v);
     }
 }
 
 // The same where it is one pixel wide, or empty.
 // Kept: with `add_span` in its place a swap of small kernels takes a quarter longer.
 #[tactic(auto, using(crate::proofs::Laws::span_one, crate::proofs::Laws::span_none))]
-pub fn add_pixel(cpe: &mut [f64], cpp: &[f64], channels: Channels, a: YyCxCz, s: Span)
+pub fn add_pixel(cpe: &mut [f64], cpp: &[f64], channels: Channels, s: Span)
     requires fits { Fits (length cpe.old) (length cpp.now) s }
     requires pixels_bound { s.pixels ≤ 1 }
-    ensures { cpe.new ≡ span_of channels a cpp.now s cpe.old }
+    ensures { cpe.new ≡ span_of channels cpp.now s cpe.old }
 {
     if 0 < s.pixels {
-        let from = s.from;
-        add_at(cpe, s.at, channels, a, cpp[from]);
+        add_at(cpe, s.at, channels, s.a, cpp[s.from]);
     }
 }
 
-// The pixels of a span grow by a times the kernel's values there, then by b times its values along o.
+// The pixels of a span grow, each by the one kernel and then by the other, which is read along o.
+// Kept: one function with a const number of kernels, written out, takes two more loops for each pixel, one that reads the values and one
+// that adds them: it is no plainer.
 #[tactic(auto, using(base::proofs::LoopLaws::up_to_none, base::proofs::LoopLaws::up_to_more), unfolding(crate::specs::Spans::add_pairs))]
-pub fn add_spans(
-    cpe: &mut [f64],
-    cpp: &[f64],
-    channels: Channels,
-    a: YyCxCz,
-    b: YyCxCz,
-    s: Span,
-    o: Span,
-)
+pub fn add_spans(cpe: &mut [f64], cpp: &[f64], channels: Channels, s: Span, o: Span)
     requires fits { Fits (length cpe.old) (length cpp.now) s }
     requires fits_2 { Fits (length cpe.old) (length cpp.now) o }
     requires pixels_value { o.pixels ≡ s.pixels }
-    ensures { cpe.new ≡ pair_span channels a b cpp.now s o cpe.old }
+    ensures { cpe.new ≡ pair_span channels cpp.now s o cpe.old }
 {
     let row = &mut cpe[s.at..s.at + 3 * s.pixels];
     let kernel = &cpp[s.from..s.from + s.pixels];
@@ -88,7 +83,7 @@ pub fn add_spans(
     for (i, v) in kernel.iter().enumerate() {
         // Read before the row is written, so that each value is stored once.
         let u = other[i];
-        add_at(row, 3 * i, channels, a, *v);
-        add_at(row, 3 * i, channels, b, u);
+        add_at(row, 3 * i, channels, s.a, *v);
+        add_at(row, 3 * i, channels, o.a, u);
     }
 }

@@ -14,6 +14,8 @@ use Rattle.base.specs.F64.{◌+f◌, ◌*f◌, f0}
 use Rattle.base.proofs.Bounds.{index_lt}
 use Rattle.base.proofs.LoopLaws.{up_to_same}
 use Rattle.base.proofs.TableLaws.{get_d_table, table_same, table_of}
+use Rattle.std.specs.List.{fold}
+use Rattle.blur.proofs.BlurLaws.{fold_places}
 use Rattle.correlate.specs.Correlate.{at, cell_at, Spread}
 use Rattle.correlate.proofs.RowLaws.{at_mid}
 use Rattle.correlate.proofs.SpreadLaws.{line_end}
@@ -35,6 +37,11 @@ reversed l n h =
 -- line i lies in the list
 pub line_room : (i rows n : ℕ) → i < rows → i * n + n ≤ rows * n
 line_room i rows n h = line_end n i rows h
+
+-- the squares of a row, place by place
+pub row_squared : (row : List Float) (s : Float) → fold (λ t x. t +f x *f x) s row ≡ up_to (square_of row) (length row) s
+unfolding square_of
+row_squared row s = fold_places (λ t x. t +f x *f x) row s
 
 -- the squares of line i, which is lent
 pub line-squared : (i n : ℕ) (out sums : List Float) → i * n + n ≤ length out →

@@ -1,11 +1,10 @@
-// The squares of a block of sums, row by row, and what they are made of: lists squared, added, mirrored.
+// The squares of a block of sums, row by row, and what they are made of: lists squared and mirrored.
 // Pins play no part.
 #![tactic(auto)]
 
-ghost use Rattle.std.specs.Prelude.{◌≡◌, ◌*◌, ◌≤◌, length};
-ghost use Rattle.base.specs.Loop.{table, up_to};
-ghost use Rattle.base.specs.F64.{◌+f◌};
-ghost use Rattle.correlate.specs.Correlate.{at};
+ghost use Rattle.std.specs.Prelude.{◌≡◌, ◌*◌, ◌≤◌, length, fold};
+ghost use Rattle.base.specs.Loop.{table};
+ghost use Rattle.base.specs.F64.{◌+f◌, ◌*f◌};
 ghost use Rattle.error.specs.Scenes.{unpinned_of};
 ghost use Rattle.squares.specs.Squares.{mirrored, square_of, line_squares, block_squares, SquareFits};
 
@@ -23,13 +22,9 @@ pub fn mirror(list: &[f64], out: &mut [f64])
 
 // The squares of a row, added to s.
 fn square_row(s: f64, row: &[f64]) -> f64
-    ensures { result ≡ up_to (square_of row.now) (length row.now) s }
+    ensures { result ≡ fold (λ t x. t +f x *f x) s row.now }
 {
-    let mut sum = s;
-    for value in row {
-        sum = sum + *value * *value;
-    }
-    sum
+    row.iter().fold(s, |t, x| t + *x * *x)
 }
 
 // The squares of each line of n values, added to that line's sum.
@@ -37,20 +32,11 @@ fn square_lines(sums: &mut [f64], out: &[f64], n: usize)
     requires { length sums.old * n ≤ length out.now }
     ensures { sums.new ≡ table (length sums.old) (line_squares out.now n sums.old) }
 {
+    // Kept: tried by `zip` with `chunks_exact(n)`, and the proof did not close, since the library says
+    // nothing of what is written through a `zip` of `iter_mut`.
     for (i, sum) in sums.iter_mut().enumerate() {
         *sum = square_row(*sum, &out[i * n..i * n + n]);
     }
-}
-
-// The values of a list, added to s.
-pub fn add_all(s: f64, list: &[f64]) -> f64
-    ensures { result ≡ up_to (λ i t. t +f at list.now i) (length list.now) s }
-{
-    let mut sum = s;
-    for value in list {
-        sum = sum + *value;
-    }
-    sum
 }
 
 // The squares of a block's sums, added to the rows' sums, with room lent for a row of errors and for
@@ -66,14 +52,7 @@ pub fn square_block(
     requires { SquareFits scene.width scene.height b (length taps.now) (length line.old) (length out.old) (length sums.old) }
     ensures { sums.new ≡ table b.rows (block_squares scene.entry.width scene.entry.height b (unpinned_of scene.entry) taps.now sums.old) }
 {
-    let unpinned = Scene {
-        width: scene.width,
-        height: scene.height,
-        pixels: scene.pixels,
-        indices: scene.indices,
-        pinned: &scene.indices[..0],
-        inks: scene.inks,
-    };
+    let unpinned = scene.unpinned();
     let columns = b.column_count(scene.width);
     out.fill(0.0);
     b.correlate(unpinned, taps, &mut line[..columns], out);

@@ -6,7 +6,7 @@ use mathlib.Core.List.{List}
 use lib.ListN.{length, get_or}
 use lib.Ieee.{Float, nan}
 use Rattle.base.specs.declared.Rect.{Rect}
-use Rattle.base.specs.Loop.{up_to, from_to}
+use Rattle.base.specs.Loop.{from_to}
 use Rattle.base.specs.Grid.{area, width, height, place}
 use Rattle.base.specs.Limits.{max_pixels, max_radius, cpp_chroma, max_side}
 use Rattle.base.proofs.Bounds.{index_le, product_le}
@@ -15,11 +15,12 @@ use Rattle.color.specs.declared.YyCxCz.{YyCxCz}
 use Rattle.tiling.specs.declared.Tiling.{Tiling}
 use Rattle.cpp.specs.declared.Kernel2D.{Kernel2D}
 use Rattle.cpp.specs.Kernel.{kernel_place, kernel_at, lum_kernel, chroma_kernel}
+use Rattle.cpp.proofs.Laws.{kernel_le}
 use Rattle.spans.specs.declared.Channels.{Channels}
 use Rattle.spans.specs.declared.Channels.TheVariants.{Luminance, Chrominance}
 use Rattle.spans.specs.declared.Span.{Span}
 use Rattle.spans.specs.Add.{add_at}
-use Rattle.spans.specs.Spans.{span_of, Fits}
+use Rattle.spans.specs.Spans.{span_of}
 use Rattle.spans.proofs.Laws.{length-add_at}
 use Rattle.sweep.specs.declared.Source.{Source}
 use Rattle.sweep.specs.Sweep.{Centred, first, past, footprint_of, sweep_pixel, sweep_row, sweep_of, add_kernels}
@@ -62,12 +63,6 @@ whole_is h cpp k W m f = refl
 
 -- ---- row y of the part C lies in the window, and in the kernel
 
--- a kernel within its limits, up to column i of row j
-pub kernel_le : (r i j : ℕ) → r ≤ max_radius → i ≤ 2 * r + 1 → j < 2 * r + 1 → j * (2 * r + 1) + i ≤ cpp_chroma
-kernel_le r i j m p q =
-    let s : (2 * r + 1) * (2 * r + 1) ≤ 65 * 65 = product_le (2 * r + 1) (2 * r + 1) 65 65 (omega arith) (omega arith) in
-    omega (arith, s, index_le i j (2 * r + 1) (2 * r + 1) p q)
-
 in_row : (q a e x : ℕ) → x ≤ a → a ≤ e → 3 * (q + (a - x)) + 0 + 3 * (e - a) ≡ 3 * (q + (e - x))
 in_row q a e x h l = omega arith
 
@@ -90,9 +85,10 @@ module _ (k : Kernel2D) (W : Rect) (m : Source) (C : Rect) (y : ℕ) (p : Part k
       let i = kernel_le k.radius (C.x1 + k.radius - m.x) (y + k.radius - m.y) few (omega (arith, p.to_right)) (omega (arith, p.to_bottom)) in
       rw (in_kernel k.from ((y + k.radius - m.y) * (2 * k.radius + 1)) C.x0 C.x1 k.radius m.x p.from_left p.columns) (omega (arith, i))
 
-  -- a span is row y's if it stands where the row does
-  pub row_span : k.from ≤ cpp_chroma → (s : Span) → s.at ≡ place 3 W C.x0 y 0 → s.pixels ≡ C.x1 - C.x0 → s.from ≡ kernel_place k (C.x0 + k.radius - m.x) (y + k.radius - m.y) → RowSpan k W m C y s
-  row_span store s a n f = record {
+  -- a span is row y's if it grows by the same and stands where the row does
+  pub row_span : k.from ≤ cpp_chroma → (s : Span) → s.a ≡ m.a → s.at ≡ place 3 W C.x0 y 0 → s.pixels ≡ C.x1 - C.x0 → s.from ≡ kernel_place k (C.x0 + k.radius - m.x) (y + k.radius - m.y) → RowSpan k W m C y s
+  row_span store s e a n f = record {
+    a_is = e;
     at_is = a;
     pixels_are = n;
     from_is = f;
@@ -132,11 +128,11 @@ module _ (h : Channels) (cpp : List Float) (k : Kernel2D) (W : Rect) (m : Source
   from_is i = rw r.from_is (kernel_step k.from ((y + k.radius - m.y) * (2 * k.radius + 1)) C.x0 k.radius m.x i p.from_left)
 
   -- its pixel is what the code adds there
-  pub pixel_is : (i : ℕ) (t : List Float) → pixel_of h cpp k W m y (C.x0 + i) t ≡ add_at h m.a (get_or cpp (s.from + i) nan) (s.at + 3 * i) t
+  pub pixel_is : (i : ℕ) (t : List Float) → pixel_of h cpp k W m y (C.x0 + i) t ≡ add_at h s.a (get_or cpp (s.from + i) nan) (s.at + 3 * i) t
   unfolding sweep_pixel kernel_at
-  pixel_is i t = rw (place_is i, from_is i)
+  pixel_is i t = rw (place_is i, from_is i, r.a_is)
 
   -- the row by where it stands
-  pub span_is : (f : List Float) → span_of h m.a cpp s f ≡ row_of h cpp k W m C y f
+  pub span_is : (f : List Float) → span_of h cpp s f ≡ row_of h cpp k W m C y f
   unfolding span_of row_of from_to
   span_is f = rw r.pixels_are (up_to_same (C.x1 - C.x0) _ _ f (λ i l t. sym (pixel_is i t)))

@@ -3,7 +3,7 @@ use Rattle.std.specs.Prelude.{◌≡◌, List, ℕ, ◌+◌, ◌-◌, ◌*◌, �
 use Rattle.base.specs.declared.Rect.{Rect}
 use Rattle.base.specs.Loop.{from_to}
 use Rattle.base.specs.Grid.{area, place}
-use Rattle.base.specs.Limits.{max_side, max_pixels, max_radius, cpp_chroma, cpp_length}
+use Rattle.base.specs.Limits.{max_side, max_pixels, cpp_chroma, cpp_length}
 use Rattle.cpp.specs.declared.Kernel2D.{Kernel2D}
 use Rattle.cpp.specs.Kernel.{kernel_place}
 use Rattle.spans.specs.declared.Channels.{Channels}
@@ -39,8 +39,9 @@ pub record Part (k : Kernel2D) (W : Rect) (m : Source) (C : Rect) : Type 0 where
   pub from_top : m.y ≤ C.y0 + k.radius
   pub to_bottom : C.y1 ≤ m.y + k.radius + 1
 
--- s is where row y of the part C stands, in `cpe` and in the kernel store
+-- s is row y of the part C: where it stands, in `cpe` and in the kernel store, and what it grows by
 pub record RowSpan (k : Kernel2D) (W : Rect) (m : Source) (C : Rect) (y : ℕ) (s : Span) : Type 0 where
+  pub a_is : s.a ≡ m.a
   pub at_is : s.at ≡ place 3 W C.x0 y 0
   pub pixels_are : s.pixels ≡ C.x1 - C.x0
   pub from_is : s.from ≡ kernel_place k (C.x0 + k.radius - m.x) (y + k.radius - m.y)

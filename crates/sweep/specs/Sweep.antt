@@ -1,6 +1,6 @@
 -- Adding a multiple of the kernels to `cpe` round a pixel, cut at the window W: `sweep` and `add_kernels` of dbs.rs
 -- (document 01: 'adds a·kernel to the field round the dot, cut at the plane').
-use Rattle.std.specs.Prelude.{◌≡◌, List, ℕ, ◌+◌, ◌-◌, ◌*◌, ◌<◌, ◌≤◌, max, min, Float}
+use Rattle.std.specs.Prelude.{List, ℕ, ◌+◌, ◌-◌, ◌≤◌, max, min, Float}
 use Rattle.base.specs.declared.Rect.{Rect}
 use Rattle.base.specs.Loop.{from_to}
 use Rattle.base.specs.Grid.{place, Inside}
@@ -28,6 +28,11 @@ footprint_of k W mx my = record {
   x1 = past mx k.radius W.x1;
   y1 = past my k.radius W.y1;
 }
+
+-- the kernel for these channels
+abbrev pub kernel_for : Channels → Tiling → Kernel2D
+kernel_for Luminance T = lum_kernel T
+kernel_for Chrominance T = chroma_kernel T
 
 module _ (channels : Channels) (a : YyCxCz) (cpp : List Float) (k : Kernel2D) (W : Rect) (mx my : ℕ) where
   -- pixel (x, y) of the kernel's footprint round (mx, my)

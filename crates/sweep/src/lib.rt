@@ -4,10 +4,9 @@
 
 ghost use Rattle.std.specs.Prelude.{◌≡◌, ◌+◌, ◌*◌, ◌<◌, ◌≤◌, length};
 ghost use Rattle.base.specs.Grid.{area};
-ghost use Rattle.base.specs.Limits.{max_side, max_pixels, max_radius, cpp_chroma, cpp_length};
-ghost use Rattle.spans.specs.Spans.{Fits};
-ghost use Rattle.cpp.specs.Kernel.{KernelFits, size, kernel_place, lum_kernel, chroma_kernel};
-ghost use Rattle.sweep.specs.Sweep.{Centred, first, past, footprint_of, sweep_of, add_kernels};
+ghost use Rattle.base.specs.Limits.{max_side, max_radius};
+ghost use Rattle.cpp.specs.Kernel.{KernelFits, lum_kernel, chroma_kernel};
+ghost use Rattle.sweep.specs.Sweep.{Centred, first, past, footprint_of, kernel_for, sweep_of, add_kernels};
 ghost use Rattle.sweep.specs.Part.{Part, RowSpan, part_of};
 
 use base::Rect;
@@ -49,42 +48,50 @@ fn past_in(m: usize, r: usize, b: usize) -> usize
     b.min(m + r + 1)
 }
 
-// Where the kernel's value in column i and row j stands in the store; i may be one past a row's end.
-#[tactic(auto, using(crate::proofs::Laws::kernel_le))]
-fn kernel_place(k: Kernel2D, i: usize, j: usize) -> usize
-    requires radius_le_max_radius { (k.radius ≤ max_radius) × (k.from ≤ cpp_chroma) }
-    requires i_bound { (i ≤ size k) × (j < size k) }
-    ensures { result ≡ kernel_place k i j }
-{
-    k.from + (j * (2 * k.radius + 1) + i)
-}
-
 impl<'a> Brush<'a> {
-    // The kernel's footprint round (x, y), cut at the window.
-    pub fn footprint(self, x: usize, y: usize) -> Rect
-        requires { (x ≤ max_side) × (y ≤ max_side) }
-        ensures { result ≡ footprint_of self.entry.kernel self.entry.window x y }
+    // The kernel for these channels, cut at the window w.
+    #[inline(always)]
+    pub fn new(cpp: &'a [f64], t: Tiling, channels: Channels, w: Rect) -> Brush<'a>
+        requires { KernelFits (kernel_for channels t) cpp.now }
+        ensures { (result.cpp.now ≡ cpp.now) × (result.kernel ≡ kernel_for channels t) × (result.channels ≡ channels) × (result.window ≡ w) }
     {
-        let r = self.kernel.radius;
-        Rect {
-            x0: first_in(x, r, self.window.x0),
-            y0: first_in(y, r, self.window.y0),
-            x1: past_in(x, r, self.window.x1),
-            y1: past_in(y, r, self.window.y1),
+        let kernel = match channels {
+            Channels::Luminance => cpp::lum_kernel(t),
+            Channels::Chrominance => cpp::chroma_kernel(t),
+        };
+        Brush {
+            cpp,
+            kernel,
+            channels,
+            window: w,
         }
     }
 
-    // Where row y of the part c stands.
+    // The kernel's footprint round m, cut at the window.
+    pub fn footprint(self, m: Source) -> Rect
+        requires { (m.x ≤ max_side) × (m.y ≤ max_side) }
+        ensures { result ≡ footprint_of self.entry.kernel self.entry.window m.x m.y }
+    {
+        let r = self.kernel.radius;
+        Rect {
+            x0: first_in(m.x, r, self.window.x0),
+            y0: first_in(m.y, r, self.window.y0),
+            x1: past_in(m.x, r, self.window.x1),
+            y1: past_in(m.y, r, self.window.y1),
+        }
+    }
+
+    // Row y of the part c: where it stands, and what it grows by.
     pub fn part_at(self, m: Source, c: Rect, y: usize) -> Span
         requires part { Part self.kernel self.window m c }
         requires y0_le_y { (c.y0 ≤ y) × (y < c.y1) }
         ensures { RowSpan self.entry.kernel self.entry.window m c y result }
     {
         Span {
+            a: m.a,
             at: base::place(3, self.window, c.x0, y),
             pixels: c.x1 - c.x0,
-            from: kernel_place(
-                self.kernel,
+            from: self.kernel.place(
                 c.x0 + self.kernel.radius - m.x,
                 y + self.kernel.radius - m.y,
             ),
@@ -100,7 +107,7 @@ impl<'a> Brush<'a> {
         ensures { cpe.new ≡ part_of self.entry.channels self.entry.cpp.now self.entry.kernel self.entry.window m c cpe.old }
     {
         for y in c.y0..c.y1 {
-            spans::add_span(cpe, self.cpp, self.channels, m.a, self.part_at(m, c, y));
+            spans::add_span(cpe, self.cpp, self.channels, self.part_at(m, c, y));
         }
     }
 
@@ -112,41 +119,20 @@ impl<'a> Brush<'a> {
         requires cpe_len { length cpe.old ≡ 3 * area self.window }
         ensures { cpe.new ≡ sweep_of self.entry.channels m.a self.entry.cpp.now self.entry.kernel self.entry.window m.x m.y cpe.old }
     {
-        self.sweep_rows(cpe, m, self.footprint(m.x, m.y));
+        self.sweep_rows(cpe, m, self.footprint(m));
     }
 }
 
-// a times both kernels is added to `cpe` round (mx, my), cut at the window.
+// Both kernels are added to `cpe` round m, cut at the window.
 #[tactic(auto, unfolding(crate::specs::Sweep::add_kernels))]
 #[inline(never)]
-pub fn add_kernels(
-    cpe: &mut [f64],
-    cpp: &[f64],
-    t: Tiling,
-    w: Rect,
-    mx: usize,
-    my: usize,
-    a: YyCxCz,
-)
+pub fn add_kernels(cpe: &mut [f64], cpp: &[f64], t: Tiling, w: Rect, m: Source)
     requires kernel_fits { KernelFits (lum_kernel t) cpp.now }
     requires kernel_fits_2 { KernelFits (chroma_kernel t) cpp.now }
-    requires centred { Centred w mx my }
+    requires centred { Centred w m.x m.y }
     requires cpe_len { length cpe.old ≡ 3 * area w }
-    ensures { cpe.new ≡ add_kernels cpp.now t w mx my a cpe.old }
+    ensures { cpe.new ≡ add_kernels cpp.now t w m.x m.y m.a cpe.old }
 {
-    let m = Source { x: mx, y: my, a };
-    let lum = Brush {
-        cpp,
-        kernel: cpp::lum_kernel(t),
-        channels: Channels::Luminance,
-        window: w,
-    };
-    let chroma = Brush {
-        cpp,
-        kernel: cpp::chroma_kernel(t),
-        channels: Channels::Chrominance,
-        window: w,
-    };
-    lum.sweep(cpe, m);
-    chroma.sweep(cpe, m);
+    Brush::new(cpp, t, Channels::Luminance, w).sweep(cpe, m);
+    Brush::new(cpp, t, Channels::Chrominance, w).sweep(cpe, m);
 }

@@ -3,18 +3,12 @@ use Rattle.std.specs.Prelude.{◌≡◌, List, ℕ, ◌+◌, ◌-◌, ◌*◌, �
 use Rattle.base.specs.declared.Rect.{Rect}
 use Rattle.base.specs.Limits.{max_side, cpp_length}
 use Rattle.base.specs.Loop.{table}
-use Rattle.base.specs.F64.{◌-f◌}
 use Rattle.neighbour.specs.Neighbour.{neighbour_of}
 use Rattle.tiling.specs.declared.Tiling.{Tiling}
 use Rattle.tiling.specs.Tiling.{Limits, image}
-use Rattle.cpp.specs.declared.Kernel2D.{Kernel2D}
-use Rattle.cpp.specs.Kernel.{lum_kernel, chroma_kernel}
+use Rattle.tables.specs.declared.Position.{Position}
 use Rattle.tables.specs.declared.Tables.{Tables}
-use Rattle.cost.specs.Cost.{centre_of, beside_of, centres}
-
--- a kernel at its centre less next to it
-abbrev pub gap_of : List Float → Kernel2D → ℕ → Float
-gap_of cpp k code = centre_of cpp k -f beside_of cpp k code
+use Rattle.cost.specs.Cost.{centres, gaps}
 
 -- the pixels of the window W from the one above and left of a pixel to its neighbour: those of the middle of 3 × 3 pixels
 abbrev pub step_to : Rect → Option (ℕ × ℕ) → ℕ
@@ -24,14 +18,16 @@ step_to W None = 0
 unfoldable pub step_of : Rect → ℕ → ℕ
 step_of W code = step_to W (neighbour_of code 1 1 3 3)
 
+-- the same in the window and in the image
+abbrev pub step_both : Rect → Rect → ℕ → Position
+step_both W I code = record { window = step_of W code; mask = step_of I code }
+
 unfoldable pub tables_of : List Float → Tiling → Rect → Tables
 tables_of cpp T W = record {
   w = W;
   centre = centres cpp T;
-  lum = table 8 (gap_of cpp (lum_kernel T));
-  chroma = table 8 (gap_of cpp (chroma_kernel T));
-  steps = table 8 (step_of W);
-  marks = table 8 (step_of (image T));
+  gaps = table 8 (gaps cpp T);
+  steps = table 8 (step_both W (image T));
 }
 
 pub record TablesFit (cpp : List Float) (T : Tiling) (W : Rect) : Type 0 where

@@ -6,75 +6,105 @@ ghost use Rattle.std.specs.Prelude.{◌≡◌, ◌<◌, ◌≤◌, length};
 ghost use Rattle.base.specs.Limits.{max_side, cpp_length};
 ghost use Rattle.base.specs.Loop.{table};
 ghost use Rattle.tiling.specs.Tiling.{Limits};
-ghost use Rattle.cpp.specs.Kernel.{KernelFits};
-ghost use Rattle.cost.specs.Cost.{centre_of, beside_of, centres};
-ghost use Rattle.tables.specs.Tables.{gap_of, step_of, tables_of, TablesFit};
+ghost use Rattle.cost.specs.Cost.{beside_of, both, centres, gaps};
+ghost use Rattle.tables.specs.Tables.{step_of, step_both, tables_of, TablesFit};
 
 use base::Rect;
 use color::YyCxCz;
-use cpp::Kernel2D;
+use cpp::Stored;
 use std::array;
 use tiling::Tiling;
 
-// What is worked out once for a tile: its window, the kernels at their centres, both kernels at
-// their centre less next to it by code, and the steps to neighbours in the window and in the mask.
+// Where a pixel stands in the window and in the mask, or how far on.
+#[derive(Clone, Copy)]
+pub struct Position {
+    pub window: usize,
+    pub mask: usize,
+}
+
+// What is worked out once for a tile: its window, the kernels at their centres, the kernels at their
+// centres less next to them by code, and the steps to neighbours by code.
 #[derive(Clone, Copy)]
 pub struct Tables {
     pub w: Rect,
     pub centre: YyCxCz,
-    pub lum: [f64; 8],
-    pub chroma: [f64; 8],
-    pub steps: [usize; 8],
-    pub marks: [usize; 8],
-}
-
-// The kernel's value at its centre.
-#[tactic(auto, unfolding(cost::specs::Cost::centre_of))]
-fn kernel_centre(cpp: &[f64], k: Kernel2D) -> f64
-    requires { KernelFits k cpp.now }
-    ensures { result ≡ centre_of cpp.now k }
-{
-    cpp::kernel_at(cpp, k, k.radius, k.radius)
+    pub gaps: [YyCxCz; 8],
+    pub steps: [Position; 8],
 }
 
 // The kernel's value next to its centre. A kernel of radius 1 or more has all eight.
 #[tactic(auto, using(crate::proofs::AllEight::centre_found), unfolding(cost::specs::Cost::beside_of))]
-fn kernel_beside(cpp: &[f64], k: Kernel2D, code: u8) -> f64
-    requires kernel_fits { KernelFits k cpp.now }
-    requires le_radius { (1 ≤ k.radius) × (code < 8) }
-    ensures { result ≡ beside_of cpp.now k code }
+fn beside(k: Stored<'_>, code: u8) -> f64
+    requires { (1 ≤ k.kernel.radius) × (code < 8) }
+    ensures { result ≡ beside_of k.entry.cpp.now k.entry.kernel code }
 {
-    let r = k.radius;
-    let size = 2 * r + 1;
+    let r = k.kernel.radius;
+    let size = k.kernel.size();
     let Some((x, y)) = neighbour::neighbour(code, r, r, size, size) else {
         unreachable!();
     };
-    cpp::kernel_at(cpp, k, x, y)
+    k.at(x, y)
 }
 
-// `cpp0`: each channel's kernel at its centre.
-#[tactic(auto, unfolding(cost::specs::Cost::centres))]
-fn centres_of(cpp: &[f64], t: Tiling) -> YyCxCz
-    requires limits { Limits t }
-    requires cpp_len { length cpp.now ≡ cpp_length }
-    ensures { result ≡ centres cpp.now t }
-{
-    let chroma = kernel_centre(cpp, cpp::chroma_kernel(t));
-    YyCxCz {
-        yy: kernel_centre(cpp, cpp::lum_kernel(t)),
-        cx: chroma,
-        cz: chroma,
+// The kernels of a tiling's channels, in their store.
+#[derive(Clone, Copy)]
+struct Kernels<'a> {
+    cpp: &'a [f64],
+    tiling: Tiling,
+    ghost limits: { Limits tiling },
+    ghost least: { (1 ≤ tiling.lum) × (1 ≤ tiling.chroma) },
+    ghost room: { length cpp.now ≡ cpp_length },
+}
+
+impl<'a> Kernels<'a> {
+    // `cpp0`: each channel's kernel at its centre.
+    #[tactic(auto, unfolding(cost::specs::Cost::centres, cost::specs::Cost::centre_of))]
+    fn centres(self) -> YyCxCz
+        ensures { result ≡ centres self.entry.cpp.now self.entry.tiling }
+    {
+        let lum = Stored {
+            cpp: self.cpp,
+            kernel: cpp::lum_kernel(self.tiling),
+        };
+        let chroma = Stored {
+            cpp: self.cpp,
+            kernel: cpp::chroma_kernel(self.tiling),
+        };
+        YyCxCz {
+            yy: lum.centre(),
+            cx: chroma.centre(),
+            cz: chroma.centre(),
+        }
     }
-}
 
-// A kernel at its centre less next to it, by code.
-fn gaps_of(cpp: &[f64], k: Kernel2D) -> [f64; 8]
-    requires kernel_fits { KernelFits k cpp.now }
-    requires le_radius { 1 ≤ k.radius }
-    ensures { result ≡ table 8 (gap_of cpp.now k) }
-{
-    let centre = kernel_centre(cpp, k);
-    array::from_fn(|code| centre - kernel_beside(cpp, k, code as u8))
+    // Each channel's kernel next to its centre.
+    fn besides(self, code: u8) -> YyCxCz
+        requires { code < 8 }
+        ensures { result ≡ both (λ k. beside_of self.entry.cpp.now k code) self.entry.tiling }
+    {
+        let lum = Stored {
+            cpp: self.cpp,
+            kernel: cpp::lum_kernel(self.tiling),
+        };
+        let chroma = Stored {
+            cpp: self.cpp,
+            kernel: cpp::chroma_kernel(self.tiling),
+        };
+        let (lum, chroma) = (beside(lum, code), beside(chroma, code));
+        YyCxCz {
+            yy: lum,
+            cx: chroma,
+            cz: chroma,
+        }
+    }
+
+    // The kernels at their centres less next to them, by code.
+    fn gaps(self) -> [YyCxCz; 8]
+        ensures { result ≡ table 8 (gaps self.entry.cpp.now self.entry.tiling) }
+    {
+        let centre = self.centres();
+        array::from_fn(|code| centre - self.besides(code as u8))
+    }
 }
 
 // How many pixels of the window lie from the one above and left of a pixel to its neighbour by this code.
@@ -89,12 +119,16 @@ fn step_of(w: Rect, code: u8) -> usize
     }
 }
 
-// The same by code.
-fn steps_of(w: Rect) -> [usize; 8]
-    requires { (w.x1 ≤ max_side) × (w.x0 ≤ w.x1) }
-    ensures { result ≡ table 8 (step_of w) }
+// The same by code, in the window and in the mask.
+fn steps_of(w: Rect, image: Rect) -> [Position; 8]
+    requires window { (w.x1 ≤ max_side) × (w.x0 ≤ w.x1) }
+    requires image { (image.x1 ≤ max_side) × (image.x0 ≤ image.x1) }
+    ensures { result ≡ table 8 (step_both w image) }
 {
-    array::from_fn(|code| step_of(w, code as u8))
+    array::from_fn(|code| Position {
+        window: step_of(w, code as u8),
+        mask: step_of(image, code as u8),
+    })
 }
 
 // The tables of a tile on the window w.
@@ -103,12 +137,11 @@ pub fn tables_of(cpp: &[f64], t: Tiling, w: Rect) -> Tables
     requires { TablesFit cpp.now t w }
     ensures { result ≡ tables_of cpp.now t w }
 {
+    let kernels = Kernels { cpp, tiling: t };
     Tables {
         w,
-        centre: centres_of(cpp, t),
-        lum: gaps_of(cpp, cpp::lum_kernel(t)),
-        chroma: gaps_of(cpp, cpp::chroma_kernel(t)),
-        steps: steps_of(w),
-        marks: steps_of(t.image_rect()),
+        centre: kernels.centres(),
+        gaps: kernels.gaps(),
+        steps: steps_of(w, t.image_rect()),
     }
 }

@@ -10,6 +10,7 @@ ghost use Rattle.job.specs.Take.{taken, take_of};
 
 use base::{Index, Refusal};
 use job::{JobRecord, TileState};
+use tiling::Tiles;
 
 // Copy a tile's region out and mark the tile out.
 fn take(
@@ -25,13 +26,17 @@ fn take(
 {
     taketests::check_take(r, tile, indices, cpe, tile_states, copy_cpe, copy_indices)?;
     let plan = r.plan;
+    let t = Tiles {
+        tiling: plan.tiling,
+    };
     let i = tile as usize;
-    regions::copy_region(plan.tiling, i, indices, cpe, copy_cpe, copy_indices);
+    regions::copy_region(t, i, indices, cpe, copy_cpe, copy_indices);
     tile_states[i] = u8::from(TileState::Out);
     Ok(())
 }
 
 // The same on the run that the record is for a C host, which is only read.
+#[tactic(auto, using(words::proofs::RunLaws::unread, words::proofs::RunLaws::read), unfolding(job::specs::Boundary::take_run))]
 pub fn take_run(
     record: &[u64],
     tile: u64,

@@ -23,12 +23,10 @@ pub fn check_take(
 ) -> Result<(), Refusal>
     ensures { status_of result ≡ judge (take_tests r tile (pixels cpe.now indices.now) tile_states.now (pixels copy_cpe.now copy_indices.now)) }
 {
-    let plan = r.plan;
-    let t = plan.tiling;
     let i = tile as usize;
-    records::check_record(r)?;
-    records::check_turn(r, tile)?;
-    records::check_image(t, indices, cpe, tile_states)?;
-    records::check_copy(t, i, copy_cpe, copy_indices)?;
+    let job = records::check_record(r)?;
+    job.check_turn(tile)?;
+    job.check_image(indices, cpe, tile_states)?;
+    job.check_copy(i, copy_cpe, copy_indices)?;
     records::check_state(tile_states, i, TileState::Waiting)
 }

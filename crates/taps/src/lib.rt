@@ -48,6 +48,7 @@ impl<'a> Row<'a> {
     }
 
     // The taps from `first` on, one by one, added to the sums from a to b - 1.
+    // Kept: sums with their ends a and b, and no part of them: a tap falls on a place of the whole row, so that a part would need where it begins.
     pub fn by_ones(self, sums: &mut [f64], a: usize, b: usize, first: usize)
         requires { (b ≤ length sums.old) × (first ≤ length self.taps.now) }
         ensures { Changed a b (λ i. row_sum self.entry i first (length self.entry.taps.now)) sums.old sums.new }
@@ -69,6 +70,7 @@ impl<'a> Row<'a> {
         ensures changed { Changed a b (λ i. row_sum self.entry i 0 result) sums.old sums.new }
     {
         let fours = self.taps.len() / 4;
+        // Kept: `chunks_exact(4)` would still be counted by q, which says where the values stand.
         for q in 0..fours {
             let d = 4 * q;
             let from = a + d - self.lead;

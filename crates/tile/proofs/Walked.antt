@@ -125,10 +125,6 @@ module _ {S : Shared} {W : Rect} (c : ℕ) (f : ℕ → State → State) {cpe₀
       let k : (i + 1 - from) * c ≡ (i - from) * c + c = turn_count i from c t.low in
       record { low = omega (arith, t.low); high = omega (arith, h); walked = rw (from_to_more _ _ _ _ t.low, k) (walked_more c (f i) cpe₁ indices₁ p₁ t.walked e sound few) }
 
-  pub turns_all : {i : ℕ} {cpe : List Float} {indices : List ℕ} {p : Progress} → Turns S W c f cpe₀ indices₀ p₀ from to i cpe indices p → to ≤ i →
-      state cpe indices p ≡ from_to from to f (state cpe₀ indices₀ p₀)
-  turns_all {i} t h = let e : i ≡ to = omega (arith, t.high, h) in rw e at t.walked.same
-
 -- one move at most is accepted at a pixel, and so one for each pixel of a row
 one : (b : Bool) → cond b 0 1 ≤ 1
 one true = omega arith

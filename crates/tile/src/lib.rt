@@ -5,42 +5,39 @@
 
 ghost use Rattle.std.specs.Prelude.{◌≡◌, ◌<◌, ◌≤◌, ◌^◌, length};
 ghost use Rattle.search.specs.Shared.{shared_of, Ready, Held};
-ghost use Rattle.tables.specs.Tables.{tables_of};
 ghost use Rattle.tile.specs.Tile.{state, visit_of, refine_row, refine_tile, no_progress, Covers};
 
 use base::{Index, Rect};
 use pins::Pins;
 use progress::Progress;
-use search::Setup;
-use tables::Tables;
+use search::{Setup, Tabled};
 
 // One pixel: its best move, unless it is pinned.
+// Kept: `cpe` and `indices` go apart, as the host lends them: a struct of two `&mut` would be made anew at each call.
 #[tactic(auto, using(crate::proofs::Walked::best_names), unfolding(crate::specs::Tile::visit_of, crate::specs::Tile::applied))]
 fn visit(
     cpe: &mut [f64],
     indices: &mut [Index],
-    s: Setup<'_>,
-    tab: Tables,
+    s: Tabled<'_>,
     x: usize,
     y: usize,
     p: Progress,
 ) -> Progress
-    requires ready { Ready (shared_of s) tab.w (length cpe.old) indices.old }
-    requires held { Held s.tiling tab.w x y }
-    requires tab_value { tab ≡ tables_of s.cpp.now s.tiling tab.w }
+    requires ready { Ready (shared_of s.setup) s.tab.w (length cpe.old) indices.old }
+    requires held { Held s.setup.tiling s.tab.w x y }
     requires accepted_bound { p.accepted < 2 ^ 62 }
-    ensures { state cpe.new indices.new result ≡ visit_of (shared_of s.entry) tab.w x y (state cpe.old indices.old p) }
+    ensures { state cpe.new indices.new result ≡ visit_of (shared_of s.entry.setup) s.entry.tab.w x y (state cpe.old indices.old p) }
 {
     let mask = Pins {
-        pinned: s.pinned,
-        width: s.tiling.width,
+        pinned: s.setup.pinned,
+        width: s.setup.tiling.width,
     };
     if mask.is_pinned(x, y) {
         return p;
     }
-    let best = search::evaluate(cpe, indices, s, tab, x, y);
-    moves::apply_move(cpe, indices, s, tab.w, x, y, best.mv);
-    progress::count_move(p, best.cost, best.mv)
+    let best = search::evaluate(cpe, indices, s, x, y);
+    moves::apply_move(cpe, indices, s.setup, s.tab.w, x, y, best.mv);
+    p.count_move(best.cost, best.mv)
 }
 
 // Row y of the tile q.
@@ -48,45 +45,33 @@ fn visit(
 fn refine_row(
     cpe: &mut [f64],
     indices: &mut [Index],
-    s: Setup<'_>,
-    tab: Tables,
+    s: Tabled<'_>,
     q: Rect,
     y: usize,
     p: Progress,
 ) -> Progress
-    requires ready { Ready (shared_of s) tab.w (length cpe.old) indices.old }
-    requires covers { Covers s.tiling tab.w q }
-    requires tab_value { tab ≡ tables_of s.cpp.now s.tiling tab.w }
+    requires ready { Ready (shared_of s.setup) s.tab.w (length cpe.old) indices.old }
+    requires covers { Covers s.setup.tiling s.tab.w q }
     requires y0_le_y { (q.y0 ≤ y) × (y < q.y1) × (p.accepted < 2 ^ 61) }
-    ensures { state cpe.new indices.new result ≡ refine_row (shared_of s.entry) tab.w q y (state cpe.old indices.old p) }
+    ensures { state cpe.new indices.new result ≡ refine_row (shared_of s.entry.setup) s.entry.tab.w q y (state cpe.old indices.old p) }
 {
     let mut n = p;
     for x in q.x0..q.x1 {
-        n = visit(cpe, indices, s, tab, x, y, n);
+        n = visit(cpe, indices, s, x, y, n);
     }
     n
 }
 
 // The pixels of the tile q, row by row.
 #[tactic(auto, unfolding(crate::specs::Tile::refine_tile))]
-fn refine_rows(
-    cpe: &mut [f64],
-    indices: &mut [Index],
-    s: Setup<'_>,
-    tab: Tables,
-    q: Rect,
-) -> Progress
-    requires ready { Ready (shared_of s) tab.w (length cpe.old) indices.old }
-    requires covers { Covers s.tiling tab.w q }
-    requires tab_value { tab ≡ tables_of s.cpp.now s.tiling tab.w }
-    ensures { state cpe.new indices.new result ≡ refine_tile (shared_of s.entry) tab.w q (state cpe.old indices.old no_progress) }
+fn refine_rows(cpe: &mut [f64], indices: &mut [Index], s: Tabled<'_>, q: Rect) -> Progress
+    requires ready { Ready (shared_of s.setup) s.tab.w (length cpe.old) indices.old }
+    requires covers { Covers s.setup.tiling s.tab.w q }
+    ensures { state cpe.new indices.new result ≡ refine_tile (shared_of s.entry.setup) s.entry.tab.w q (state cpe.old indices.old no_progress) }
 {
-    let mut n = Progress {
-        accepted: 0,
-        delta: 0.0,
-    };
+    let mut n = Progress::default();
     for y in q.y0..q.y1 {
-        n = refine_row(cpe, indices, s, tab, q, y, n);
+        n = refine_row(cpe, indices, s, q, y, n);
     }
     n
 }
@@ -104,6 +89,9 @@ pub fn refine_tile(
     requires covers { Covers s.tiling w q }
     ensures { state cpe.new indices.new result ≡ refine_tile (shared_of s.entry) w q (state cpe.old indices.old no_progress) }
 {
-    let tab = tables::tables_of(s.cpp, s.tiling, w);
-    refine_rows(cpe, indices, s, tab, q)
+    let tabled = Tabled {
+        setup: s,
+        tab: tables::tables_of(s.cpp, s.tiling, w),
+    };
+    refine_rows(cpe, indices, tabled, q)
 }

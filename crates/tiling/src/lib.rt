@@ -18,72 +18,7 @@ pub struct Tiling {
     pub chroma: usize,
 }
 
-// Smallest tile side. Larger tiles amortise the region copies; smaller ones expose more
-// parallelism. The correctness bound (2 margin + 1) is enforced separately.
-const MIN_TILE: usize = 64;
-
 impl Tiling {
-    // How far beyond its tile a move writes: the larger radius, and one pixel more for a swap's neighbour.
-    pub fn margin(self) -> usize
-        requires { Limits self }
-        ensures { result ≡ spec.margin self }
-    {
-        self.lum.max(self.chroma) + 1
-    }
-
-    pub fn side(self) -> usize
-        requires { Limits self }
-        ensures { result ≡ spec.side self }
-    {
-        MIN_TILE.max(2 * self.margin() + 1)
-    }
-
-    // Kept: a line each, and what they share is `div_ceil`.
-    pub fn columns(self) -> usize
-        requires { Limits self }
-        ensures { result ≡ spec.columns self }
-    {
-        self.width.div_ceil(self.side())
-    }
-
-    pub fn rows(self) -> usize
-        requires { Limits self }
-        ensures { result ≡ spec.rows self }
-    {
-        self.height.div_ceil(self.side())
-    }
-
-    pub fn tile_count(self) -> usize
-        requires { Limits self }
-        ensures { result ≡ spec.tiles self }
-    {
-        self.rows() * self.columns()
-    }
-
-    // The column and the row of a tile, whose number is ty * columns + tx.
-    fn tile_x(self, tile: usize) -> usize
-        requires { Limits self }
-        ensures { result ≡ spec.tile_x self tile }
-    {
-        tile % self.columns()
-    }
-
-    fn tile_y(self, tile: usize) -> usize
-        requires { Limits self }
-        ensures { result ≡ spec.tile_y self tile }
-    {
-        tile / self.columns()
-    }
-
-    // Phases 0 to 3 take (tx mod 2, ty mod 2) = (0, 0), (1, 0), (0, 1), (1, 1). Any phase and any tile
-    // number may be asked for.
-    pub fn is_in_phase(self, phase: usize, tile: usize) -> bool
-        requires { Limits self }
-        ensures { result ≡ spec.in_phase self phase tile }
-    {
-        self.tile_x(tile) % 2 == phase % 2 && self.tile_y(tile) % 2 == phase / 2
-    }
-
     // The whole image.
     pub fn image_rect(self) -> Rect
         ensures { result ≡ spec.image self }
@@ -95,12 +30,77 @@ impl Tiling {
             y1: self.height,
         }
     }
+}
+
+// A tiling within document 01's limits, and so its tiles.
+#[derive(Clone, Copy)]
+pub struct Tiles {
+    pub tiling: Tiling,
+    pub ghost limits: { Limits tiling },
+}
+
+// Smallest tile side. Larger tiles amortise the region copies; smaller ones expose more
+// parallelism. The correctness bound (2 margin + 1) is enforced separately.
+const MIN_TILE: usize = 64;
+
+impl Tiles {
+    // How far beyond its tile a move writes: the larger radius, and one pixel more for a swap's neighbour.
+    pub fn margin(self) -> usize
+        ensures { result ≡ spec.margin self.tiling }
+    {
+        self.tiling.lum.max(self.tiling.chroma) + 1
+    }
+
+    pub fn side(self) -> usize
+        ensures { result ≡ spec.side self.tiling }
+    {
+        MIN_TILE.max(2 * self.margin() + 1)
+    }
+
+    // Kept: a line each, and what they share is `div_ceil`.
+    pub fn columns(self) -> usize
+        ensures { result ≡ spec.columns self.tiling }
+    {
+        self.tiling.width.div_ceil(self.side())
+    }
+
+    pub fn rows(self) -> usize
+        ensures { result ≡ spec.rows self.tiling }
+    {
+        self.tiling.height.div_ceil(self.side())
+    }
+
+    pub fn tile_count(self) -> usize
+        ensures { result ≡ spec.tiles self.tiling }
+    {
+        self.rows() * self.columns()
+    }
+
+    // The column and the row of a tile, whose number is ty * columns + tx.
+    fn tile_x(self, tile: usize) -> usize
+        ensures { result ≡ spec.tile_x self.tiling tile }
+    {
+        tile % self.columns()
+    }
+
+    fn tile_y(self, tile: usize) -> usize
+        ensures { result ≡ spec.tile_y self.tiling tile }
+    {
+        tile / self.columns()
+    }
+
+    // Phases 0 to 3 take (tx mod 2, ty mod 2) = (0, 0), (1, 0), (0, 1), (1, 1). Any phase and any tile
+    // number may be asked for.
+    pub fn is_in_phase(self, phase: usize, tile: usize) -> bool
+        ensures { result ≡ spec.in_phase self.tiling phase tile }
+    {
+        self.tile_x(tile) % 2 == phase % 2 && self.tile_y(tile) % 2 == phase / 2
+    }
 
     // The pixels of a tile.
     pub fn tile_rect(self, tile: usize) -> Rect
-        requires limits { Limits self }
-        requires tile_bound { tile < spec.tiles self }
-        ensures { result ≡ spec.tile self tile }
+        requires { tile < spec.tiles self.tiling }
+        ensures { result ≡ spec.tile self.tiling tile }
     {
         let side = self.side();
         let x0 = self.tile_x(tile) * side;
@@ -108,18 +108,17 @@ impl Tiling {
         Rect {
             x0,
             y0,
-            x1: self.width.min(x0 + side),
-            y1: self.height.min(y0 + side),
+            x1: self.tiling.width.min(x0 + side),
+            y1: self.tiling.height.min(y0 + side),
         }
     }
 
     // `with_margin` of dbs.rs: the part of the image that the tile's moves read and write.
     pub fn region_rect(self, tile: usize) -> Rect
-        requires limits { Limits self }
-        requires tile_bound { tile < spec.tiles self }
-        ensures { result ≡ spec.region self tile }
+        requires { tile < spec.tiles self.tiling }
+        ensures { result ≡ spec.region self.tiling tile }
     {
         self.tile_rect(tile)
-            .with_margin(self.margin(), self.width, self.height)
+            .with_margin(self.margin(), self.tiling.width, self.tiling.height)
     }
 }

@@ -13,6 +13,8 @@ fn weave(row: &mut [f64], lines: &[f64], w: usize)
     requires { (length row.old ≡ 3 * w) × (length lines.now ≡ 3 * w) }
     ensures { row.new ≡ table (3 * w) (woven w lines.now) }
 {
+    // Kept: tried by `chunks_exact_mut(3)`, and the proof did not close, since the library says nothing of
+    // what is written through a chunk.
     for x in 0..w {
         let j = 3 * x;
         row[j] = lines[x];

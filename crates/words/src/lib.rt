@@ -11,6 +11,7 @@ use job::{JobRecord, Plan};
 use tiling::Tiling;
 
 // Numbers in a run.
+// Kept: a run stays a slice, whose length is one of the tests of `read`; as an array each of the three calls that write it would test its length once more.
 pub const RECORD_LEN: usize = 12;
 
 // Refusal 12 of a run's length.

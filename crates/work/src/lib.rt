@@ -16,11 +16,12 @@ use base::{Index, Refusal, Status};
 use job::JobRecord;
 use progress::Progress;
 use search::Setup;
+use tiling::Tiles;
 
 // Moves accepted and the sum of their costs, or a refusal with zeros.
 // Kept: C reads number and place here, so that it is no `Result`.
 #[repr(C)]
-#[derive(Clone, Copy)]
+#[derive(Clone, Copy, Default)]
 pub struct DbsWorked {
     pub number: u64,
     pub place: u64,
@@ -34,18 +35,16 @@ impl From<Result<Progress, Refusal>> for DbsWorked {
     fn from(made: Result<Progress, Refusal>) -> DbsWorked {
         match made {
             Ok(progress) => DbsWorked {
-                number: 0,
-                place: 0,
                 accepted: progress.accepted as u64,
                 delta: progress.delta,
+                ..DbsWorked::default()
             },
             Err(refusal) => {
-                let status = Status::from(refusal);
+                let Status { number, place } = Status::from(refusal);
                 DbsWorked {
-                    number: status.number,
-                    place: status.place,
-                    accepted: 0,
-                    delta: 0.0,
+                    number,
+                    place,
+                    ..DbsWorked::default()
                 }
             }
         }
@@ -66,12 +65,13 @@ fn work(
 {
     worktests::check_work(r, tile, pinned, cpp, copy_cpe, copy_indices, inks)?;
     let plan = r.plan;
-    let t = plan.tiling;
+    let t = Tiles {
+        tiling: plan.tiling,
+    };
     let region = t.region_rect(tile as usize);
     let rect = t.tile_rect(tile as usize);
     let setup = Setup {
-        tiling: t,
-        count: plan.inks as usize,
+        tiling: t.tiling,
         pinned,
         inks,
         cpp,
@@ -80,6 +80,7 @@ fn work(
 }
 
 // The same on the run that the record is for a C host, which is only read.
+#[tactic(auto, using(words::proofs::RunLaws::unread, words::proofs::RunLaws::read), unfolding(job::specs::Boundary::work_run))]
 pub fn work_run(
     record: &[u64],
     tile: u64,

@@ -11,10 +11,7 @@ use job::JobRecord;
 fn word_over(old: u64, x: f64) -> u64
     ensures { result ≡ word_over old x }
 {
-    if x == x {
-        return bits::of_float(x);
-    }
-    if bits::is_nan(old) {
+    if x.is_nan() && bits::is_nan(old) {
         return old;
     }
     bits::of_float(x)
@@ -39,7 +36,7 @@ fn write_words(words: &mut [u64], r: JobRecord, initial: u64, error: u64)
         r.accepted,
         initial,
         error,
-        r.finished as u64,
+        u64::from(r.finished),
     ];
     words.copy_from_slice(&run);
 }

@@ -18,4 +18,4 @@ refine_passes-end-requires c =
 pub returns : goal.returns
 returns c =
     let start = (goal.at.returns c).Start in
-    ends_as (I start) c.args.t _ c.args.cpp.now _ _ _ c.requires.tiling c.prepare-error.ensures c.args.accepted_per_pass.now _ _ _ _ c.refine_passes-end.ensures
+    ends_as (I start) c.args.t _ c.args.cpp.now _ _ _ c.requires.tiling c.prepare-error.ensures c.requires.passes c.args.accepted_per_pass.now _ _ _ _ c.refine_passes-end.ensures

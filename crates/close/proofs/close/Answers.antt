@@ -22,15 +22,15 @@ returns-in_err-check_close c =
     let p = err_from_is_err_and c.from_residual.result c.from_residual.ensures.1 in
     rw (p.1, p.2) ((close_answers a.r a.accepted_per_pass.now a.tile_states.now a.deltas.now).kept _ c.in_err-check_close.ensures (refusal_ne _))
 
-pub add_deltas-error-requires : goal.add_deltas-error-requires
-add_deltas-error-requires c =
-    let start = (goal.at.add_deltas-error-requires c).Start in
-    limits_of c.args.r (valid start c.in_ok-check_close.ensures).valid
+pub invariant_of-t : goal.invariant_of-t
+invariant_of-t c =
+    let start = (goal.at.invariant_of-t c).Start in
+    record { limits = limits_of c.args.r (valid start c.in_ok-check_close.ensures).valid }
 
 pub release-requires : goal.release-requires
 release-requires c =
     let start = (goal.at.release-requires c).Start in
-    let v = valid start c.in_ok-check_close.ensures in record { limits = limits_of c.args.r v.valid; tile_states_len = v.states_length }
+    (valid start c.in_ok-check_close.ensures).states_length
 
 pub store_count-requires : goal.store_count-requires
 store_count-requires c =

@@ -4,8 +4,7 @@ use native.Mathlib.Omega.{arith}
 use mathlib.Core.Path.{◌≡◌, sym, ◌∙◌}
 use Rattle.tiling.specs.Tiling.{tiles}
 use Rattle.job.specs.Close.{is_missing}
-use Rattle.job.proofs.FirstLaws.{none_first}
-use Rattle.closetests.proofs.FirstLaws.{none_more, first_is}
+use Rattle.closetests.proofs.FirstLaws.{none_more, first_found, none_found}
 use Rattle.closetests.proofs.first_missing.Goals as goal
 
 pub loop-i-init : goal.loop-i-init
@@ -15,7 +14,7 @@ pub returns-then-is_missing : goal.returns-then-is_missing
 unfolding is_missing
 returns-then-is_missing c =
     let h = c.loop-i.invariant in
-    sym (first_is _ (tiles c.args.r.plan.tiling) c.loop-i.i (omega (arith, c.loop-i-test.true, c.requires.tile_states_len)) (sym c.is_missing.ensures ∙ c.if-is_missing.true) h.1)
+    first_found _ (tiles c.args.job.job.plan.tiling) c.loop-i.i (omega (arith, c.loop-i-test.true, c.requires)) (sym c.is_missing.ensures ∙ c.if-is_missing.true) h.1
 
 pub loop-i-preserved : goal.loop-i-preserved
 loop-i-preserved c =
@@ -26,5 +25,5 @@ pub returns : goal.returns
 unfolding is_missing
 returns c =
     let h = c.loop-i.invariant in
-    let e : c.loop-i.i ≡ tiles c.args.r.plan.tiling = omega (arith, c.loop-i-test.false, h.0, c.requires.tile_states_len) in
-    c.requires.tile_states_len ∙ sym (none_first _ (tiles c.args.r.plan.tiling) (λ j q. h.1 j (omega (arith, q, e))))
+    let e : c.loop-i.i ≡ tiles c.args.job.job.plan.tiling = omega (arith, c.loop-i-test.false, h.0, c.requires) in
+    none_found _ (tiles c.args.job.job.plan.tiling) (λ j q. h.1 j (omega (arith, q, e)))

@@ -18,4 +18,4 @@ first_in_pass-requires c =
 pub returns : goal.returns
 returns c =
     let s = (goal.at.returns c).Start in
-    searches_as (I s) c.args.t _ c.args.cpp.now _ _ c.first_in_pass.result c.requires.tiling c.build.ensures c.first_in_pass.ensures
+    searches_as (I s) c.args.t _ c.args.cpp.now _ _ c.first_in_pass.result c.requires.tiling c.build.ensures c.requires.passes c.first_in_pass.ensures

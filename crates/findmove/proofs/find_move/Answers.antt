@@ -1,4 +1,5 @@
 -- `findmove::find_move` meets its contract: a refusal is the first test of the one list that fails, and else the accepted input is searched. Assumes nothing.
+use Rattle.std.proofs.lemmas.Result.{err_from_is_err_and}
 use Rattle.input.specs.Inputs.{input_of}
 use Rattle.input.specs.Input.{Input}
 use Rattle.found.specs.Found.{answer_of}
@@ -10,20 +11,20 @@ use Rattle.findmove.proofs.find_move.Goals as goal
 abbrev I : Start → Input
 I s = input_of s.args.given
 
-pub returns-in-Err : goal.returns-in-Err
+pub returns-in_err-tiling : goal.returns-in_err-tiling
 unfolding answer_of
-returns-in-Err c =
+returns-in_err-tiling c =
     let a = c.args in
-    rw c.from.ensures (refused_is (I (goal.at.returns-in-Err c).Start) a.cpe.now a.cpp.now a.inks.now _ c.in-Err.ensures)
+    let p = err_from_is_err_and c.from_residual.result c.from_residual.ensures.1 in
+    rw (p.1, p.2) (refused_is (I (goal.at.returns-in_err-tiling c).Start) a.cpe.now a.cpp.now a.inks.now _ c.in_err-tiling.ensures)
 
-pub find_accepted-first-requires : goal.find_accepted-first-requires
-find_accepted-first-requires c =
+pub find_accepted-requires : goal.find_accepted-requires
+find_accepted-requires c =
     let a = c.args in
-    ready (I (goal.at.find_accepted-first-requires c).Start) a.cpe.now a.cpp.now a.inks.now _ c.in-Ok.ensures.0 c.in-Ok.ensures.1
+    ready (I (goal.at.find_accepted-requires c).Start) a.cpe.now a.cpp.now a.inks.now _ c.in_ok-tiling.ensures.0 c.in_ok-tiling.ensures.1
 
 pub returns : goal.returns
 unfolding answer_of
 returns c =
     let a = c.args in
-    rw c.from-2.ensures
-    (searched_is (I (goal.at.returns c).Start) a.cpe.now a.cpp.now a.inks.now _ c.in-Ok.ensures.0 c.in-Ok.ensures.1 c.find_accepted-first.result _ _ _ c.find_accepted-first.ensures)
+    searched_is (I (goal.at.returns c).Start) a.cpe.now a.cpp.now a.inks.now _ c.in_ok-tiling.ensures.0 c.in_ok-tiling.ensures.1 c.find_accepted.result _ _ _ c.find_accepted.ensures

@@ -1,7 +1,7 @@
 -- What the loop of `largest` keeps.
-use Prim.Native.Nat.{max, ◌≤◌}
+use Prim.Native.Nat.{max}
 use mathlib.Core.Path.{◌≡◌}
-use lib.ListN.{length, drop}
+use lib.ListN.{drop}
 use Rattle.fits.specs.Folds.{largest_of}
 use Rattle.fits.proofs.largest.Given as goal
 

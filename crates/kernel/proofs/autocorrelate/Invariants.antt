@@ -9,4 +9,4 @@ use Rattle.kernel.proofs.autocorrelate.Given as goal
 
 abbrev pub invariant-loop-k : goal.invariant-loop-k
 invariant-loop-k l =
-    (l.k ≤ length l.initial.c) × (l.k-end ≡ length l.initial.c) × (length l.c ≡ length l.initial.c) × (l.c ≡ filled l.k (λ k. correlation_at l.p l.r (k % kernel_side (2 * l.r)) (k / kernel_side (2 * l.r))) l.initial.c)
+    (l.k ≤ length l.initial.c) × (l.k-end ≡ length l.initial.c) × (length l.c ≡ length l.initial.c) × (l.c ≡ filled l.k (λ k. correlation_at l.p.values.now l.p.radius (k % kernel_side (2 * l.p.radius)) (k / kernel_side (2 * l.p.radius))) l.initial.c)

@@ -14,7 +14,7 @@ add p r i j y x s = s +f entry p r x y *f entry p r (x + i - 2 * r) (y + j - 2 *
 
 abbrev pub invariant-loop-x : goal.invariant-loop-x
 invariant-loop-x l =
-    (overlap_from l.r l.i ≤ l.x) × (l.x ≤ overlap_to l.r l.i) × (l.end ≡ overlap_to l.r l.i) × (l.s ≡ from_to (overlap_from l.r l.i) l.x (add l.p l.r l.i l.j l.y) l.from)
+    (overlap_from l.r l.i ≤ l.x) × (l.x ≤ overlap_to l.r l.i) × (l.end ≡ overlap_to l.r l.i) × (l.s ≡ from_to (overlap_from l.r l.i) l.x (add l.p.values.now l.r l.i l.j l.y) l.from)
 
 abbrev pub decreases-loop-x : goal.decreases-loop-x
 decreases-loop-x l = l.end - l.x

@@ -8,7 +8,7 @@ use Rattle.kernel.proofs.correlation.Given as goal
 
 abbrev pub invariant-loop-y : goal.invariant-loop-y
 invariant-loop-y l =
-    (overlap_from l.r l.j ≤ l.y) × (l.y ≤ overlap_to l.r l.j) × (l.end ≡ overlap_to l.r l.j) × (l.s ≡ from_to (overlap_from l.r l.j) l.y (row_sum l.p l.r l.i l.j) f0)
+    (overlap_from l.p.radius l.j ≤ l.y) × (l.y ≤ overlap_to l.p.radius l.j) × (l.end ≡ overlap_to l.p.radius l.j) × (l.s ≡ from_to (overlap_from l.p.radius l.j) l.y (row_sum l.p.values.now l.p.radius l.i l.j) f0)
 
 abbrev pub decreases-loop-y : goal.decreases-loop-y
 decreases-loop-y l = l.end - l.y

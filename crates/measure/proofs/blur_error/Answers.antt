@@ -8,6 +8,7 @@ use lib.Seq.{length-take-le}
 use Rattle.base.specs.Loop.{up_to}
 use Rattle.base.specs.F64.{◌+f◌, f0}
 use Rattle.base.proofs.LoopLaws.{up_to_none, up_to_join}
+use Rattle.blur.proofs.BlurLaws.{values_added}
 use Rattle.color.specs.Inks.{number}
 use Rattle.error.specs.Scenes.{unpinned_of}
 use Rattle.measure.specs.Measure.{frame, row_error, blur_error}
@@ -38,7 +39,7 @@ added c =
     let above : min l.y end ≡ l.y = omega arith in
     let rows : n ≡ min 64 (end - l.y) = omega arith in
     let long : length (take n l.sums) ≡ n = length-take-le n l.sums (omega arith) in
-    rw (← rows) (c.add_all-s.ensures
+    rw (← rows) (c.add_all-s.ensures ∙ values_added c.square_band.new.sums l.s
     ∙ band_added (frame i.width i.height a.taps.radius) (unpinned_of i) (mirror_of a.taps.values.now) (number a.c) l.y n c.square_band.new.sums l.s (rw long at c.square_band.ensures)
     ∙ ap (up_to (λ j. row s (l.y + j)) n) (rw above at l.invariant) ∙ up_to_join (row s) l.y n f0)
 

@@ -18,4 +18,4 @@ loop-i-preserved c =
 pub returns : goal.returns
 returns c =
     let h = c.loop-i.invariant in
-    h.2 ∙ ap (λ n. with_deltas c.args.t c.args.phase c.args.deltas.now n c.args.error) (omega (arith, c.loop-i-test.false, h.0, h.1))
+    h.2 ∙ ap (λ n. with_deltas c.args.t.tiling c.args.phase c.args.deltas.now n c.args.error) (omega (arith, c.loop-i-test.false, h.0, h.1))

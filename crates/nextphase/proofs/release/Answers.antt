@@ -16,7 +16,7 @@ pub loop-i-preserved : goal.loop-i-preserved
 loop-i-preserved c =
     let h = c.loop-i.invariant in
     let room : c.loop-i.i < length c.args.tile_states.now = omega (arith, c.loop-i-test.true, h.1) in
-    (omega (arith, room), refl, simp length-set h.2, fill_turn 0 _ _ _ _ _ room h.3 (c.released_state.ensures ∙ ap (λ b. cond (in_phase c.args.t c.args.phase c.loop-i.i) 0 b) (ap (λ l. get_or l c.loop-i.i 0) h.3 ∙ fill_rest 0 _ _ _)))
+    (omega (arith, room), refl, simp length-set h.2, fill_turn 0 _ _ _ _ _ room h.3 (c.released_state.ensures ∙ ap (λ b. cond (in_phase c.args.t.tiling c.args.phase c.loop-i.i) 0 b) (ap (λ l. get_or l c.loop-i.i 0) h.3 ∙ fill_rest 0 _ _ _)))
 
 pub shape_of-tile_states : goal.shape_of-tile_states
 shape_of-tile_states c = c.loop-i.invariant.2
@@ -26,4 +26,4 @@ unfolding released
 returns c =
     let h = c.loop-i.invariant in
     let a = c.args in
-    fill_done c.loop-i.i _ _ _ _ (omega (arith, h.0, h.1)) (omega (arith, c.loop-i-test.false, h.1)) c.requires.tile_states_len h.3
+    fill_done c.loop-i.i _ _ _ _ (omega (arith, h.0, h.1)) (omega (arith, c.loop-i-test.false, h.1)) c.requires h.3

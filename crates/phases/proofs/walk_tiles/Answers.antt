@@ -8,7 +8,7 @@ use Rattle.tiling.specs.Tiling.{tiles}
 use Rattle.tiling.proofs.Sizes.{sizes}
 use Rattle.search.specs.Shared.{Shared, shared_of}
 use Rattle.tile.proofs.Walked.{ready_again}
-use Rattle.phases.specs.Phases.{Refined, refined, walk_try, walk_tiles}
+use Rattle.phases.specs.Phases.{Refined, refined, walk_try}
 use Rattle.phases.proofs.Laws.{between_none, between_more, walk_try_sound, walk_try_few}
 use Rattle.phases.proofs.walk_tiles.Goals as goal
 
@@ -32,9 +32,3 @@ loop-tile-preserved c =
     let r : Refined = refined c.loop-tile.cpe c.loop-tile.indices c.loop-tile.n in
     rw (up_to_more (walk_try S a.phase) i _, k) (between_more 4489 (walk_try S a.phase i) _ _ _ w c.walk_try-n.ensures
     (walk_try_sound S a.indices.now (length a.cpe.now) a.phase i r h w.sound) (walk_try_few S a.phase i r c.requires.ready.limits))
-
-pub returns : goal.returns
-unfolding walk_tiles
-returns c =
-    let e : c.loop-tile.tile ≡ tiles c.args.s.tiling = omega (arith, c.tile_count-tile-end.ensures) in
-    rw e at c.loop-tile.invariant.same

@@ -14,9 +14,9 @@ invariant_of-scene c =
     let s = (goal.at.invariant_of-scene c).Start in
     record { fits = built_scene (I s) c.args.t _ c.args.cpp.now _ _ c.requires.tiling c.build.ensures c.requires.passes }
 
-pub initial_error-requires-clause-cpe_len : goal.initial_error-requires-clause-cpe_len
-initial_error-requires-clause-cpe_len c =
-    let s = (goal.at.initial_error-requires-clause-cpe_len c).Start in
+pub initial_error-requires : goal.initial_error-requires
+initial_error-requires c =
+    let s = (goal.at.initial_error-requires c).Start in
     built_room (I s) c.args.t _ c.args.cpp.now _ _ c.requires.tiling c.build.ensures
 
 pub returns : goal.returns

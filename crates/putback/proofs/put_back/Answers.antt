@@ -2,7 +2,6 @@
 use native.Mathlib.Omega.{arith}
 use mathlib.Core.Path.{◌≡◌, refl}
 use Rattle.std.proofs.lemmas.Result.{err_from_is_err_and}
-use Rattle.progress.specs.Progress.{progress_of}
 use Rattle.base.specs.Refusal.{judge, accepted}
 use Rattle.base.proofs.JudgeLaws.{refusal_ne}
 use Rattle.tile.specs.Tile.{State, state}
@@ -22,7 +21,7 @@ abbrev image : Start → Pixels
 image s = pixels s.args.cpe.now s.args.indices.now
 
 abbrev brought : Start → State
-brought s = state s.args.copy_cpe.now s.args.copy_indices.now (progress_of s.args.accepted s.args.delta)
+brought s = state s.args.copy_cpe.now s.args.copy_indices.now s.args.progress
 
 valid : (s : Start) → accepted ≡ judge (put_back_tests s.args.r s.args.tile (image s) s.args.tile_states.now s.args.deltas.now (brought s)) →
     ValidPutBack s.args.r s.args.tile (image s) s.args.tile_states.now s.args.deltas.now (brought s)
@@ -36,11 +35,14 @@ returns-in_err-check_put_back c =
     let p = err_from_is_err_and c.from_residual.result c.from_residual.ensures.1 in
     rw (p.1, p.2) ((put_back_answers c.args.r c.args.tile (image s) c.args.tile_states.now c.args.deltas.now (brought s)).kept _ c.in_err-check_put_back.ensures (refusal_ne _))
 
+pub invariant_of-t : goal.invariant_of-t
+invariant_of-t c = let v = valid (goal.at.invariant_of-t c).Start c.in_ok-check_put_back.ensures in record { limits = limits_of c.args.r v.on.valid }
+
 pub write_region-requires : goal.write_region-requires
 unfolding pixels_of
 write_region-requires c =
     let v = valid (goal.at.write_region-requires c).Start c.in_ok-check_put_back.ensures in
-    record { limits = (limits_of c.args.r v.on.valid, v.on.tile_has); cpe_len = (v.on.cpe_length, v.on.indices_length); copy_cpe_len = (v.room.cpe_length, v.room.indices_length) }
+    record { tile_bound = v.on.tile_has; cpe_len = (v.on.cpe_length, v.on.indices_length); copy_cpe_len = (v.room.cpe_length, v.room.indices_length) }
 
 pub bounds-tile_states-i : goal.bounds-tile_states-i
 bounds-tile_states-i c = let v = valid (goal.at.bounds-tile_states-i c).Start c.in_ok-check_put_back.ensures in omega (arith, v.on.tile_has, v.on.states_length)
@@ -53,9 +55,9 @@ offset_bounds-deltas-i c =
 pub bounds-deltas-i : goal.bounds-deltas-i
 bounds-deltas-i c = let v = valid (goal.at.bounds-deltas-i c).Start c.in_ok-check_put_back.ensures in omega (arith, v.on.tile_has, v.deltas_length)
 
-pub overflow_add-record : goal.overflow_add-record
-overflow_add-record c =
-    let v = valid (goal.at.overflow_add-record c).Start c.in_ok-check_put_back.ensures in
+pub overflow_add-result : goal.overflow_add-result
+overflow_add-result c =
+    let v = valid (goal.at.overflow_add-result c).Start c.in_ok-check_put_back.ensures in
     omega (arith, v.total_most, few_pixels c.args.r v.on.valid)
 
 pub returns : goal.returns

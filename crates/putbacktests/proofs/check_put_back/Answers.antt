@@ -7,79 +7,68 @@ use Rattle.base.proofs.JudgeLaws.{ends_at, follows, passed_by, refused_by}
 use Rattle.base.proofs.RefusalLaws.{Numbered}
 use Rattle.job.specs.Record.{pixels_of}
 use Rattle.job.specs.PutBack.{count_test, put_back_tests}
+use Rattle.job.specs.Work.{copy_test}
 use Rattle.records.proofs.RecordLaws.{limits_of, valid_of, turn_tile, image_states, record_refuses, after_record}
 use Rattle.putbacktests.proofs.check_put_back.Goals as goal
 
-pub returns-in_err-check_record : goal.returns-in_err-check_record
+pub returns-in_err-job : goal.returns-in_err-job
 unfolding put_back_tests
-returns-in_err-check_record c =
+returns-in_err-job c =
     let p = err_from_is_err_and c.from_residual.result c.from_residual.ensures.1 in
     rw (p.1, p.2)
-    (record_refuses c.args.r _ _ c.in_err-check_record.ensures)
-
-pub is_over-requires : goal.is_over-requires
-is_over-requires c = valid_of _ c.in_ok-check_record.ensures
+    (record_refuses c.args.r _ _ c.in_err-job.ensures.tested)
 
 pub returns-in_err-refuse_if : goal.returns-in_err-refuse_if
 unfolding put_back_tests count_test pixels_of Numbered
 returns-in_err-refuse_if c =
     let p = err_from_is_err_and c.from_residual-in_err-refuse_if.result c.from_residual-in_err-refuse_if.ensures.1 in
-    rw (p.1, p.2)
-    (after_record c.args.r _ c.in_ok-check_record.ensures
+    rw (p.1, p.2, ← c.in_ok-job.ensures.same)
+    (after_record _ _ (rw (← c.in_ok-job.ensures.same) at c.in_ok-job.ensures.tested)
     (refused_by _ _ _ (let f = c.in_err-refuse_if.ensures.fails in (sym c.is_over.ensures ∙ f.0, f.1)) refl))
-
-pub check_turn-requires : goal.check_turn-requires
-check_turn-requires c = limits_of _ (valid_of _ c.in_ok-check_record.ensures)
 
 pub returns-in_err-check_turn : goal.returns-in_err-check_turn
 unfolding put_back_tests count_test pixels_of Numbered
 returns-in_err-check_turn c =
     let p = err_from_is_err_and c.from_residual-in_err-check_turn.result c.from_residual-in_err-check_turn.ensures.1 in
-    rw (p.1, p.2)
-    (after_record c.args.r _ c.in_ok-check_record.ensures
+    rw (p.1, p.2, ← c.in_ok-job.ensures.same)
+    (after_record _ _ (rw (← c.in_ok-job.ensures.same) at c.in_ok-job.ensures.tested)
     (passed_by _ _ (sym c.is_over.ensures ∙ c.in_ok-refuse_if.ensures.passes)
     (ends_at _ (_ ∷ _ ∷ []) _ (omega arith) c.in_err-check_turn.ensures)))
-
-pub check_image-requires : goal.check_image-requires
-check_image-requires c = limits_of _ (valid_of _ c.in_ok-check_record.ensures)
 
 pub returns-in_err-check_image : goal.returns-in_err-check_image
 unfolding put_back_tests count_test pixels_of Numbered
 returns-in_err-check_image c =
     let p = err_from_is_err_and c.from_residual-in_err-check_image.result c.from_residual-in_err-check_image.ensures.1 in
-    rw (p.1, p.2)
-    (after_record c.args.r _ c.in_ok-check_record.ensures
+    rw (p.1, p.2, ← c.in_ok-job.ensures.same)
+    (after_record _ _ (rw (← c.in_ok-job.ensures.same) at c.in_ok-job.ensures.tested)
     (passed_by _ _ (sym c.is_over.ensures ∙ c.in_ok-refuse_if.ensures.passes)
     (follows (_ ∷ _ ∷ []) _ (omega arith) c.in_ok-check_turn.ensures
     (ends_at _ (_ ∷ _ ∷ _ ∷ []) _ (omega arith) c.in_err-check_image.ensures))))
-
-pub tile_count-requires : goal.tile_count-requires
-tile_count-requires c = limits_of _ (valid_of _ c.in_ok-check_record.ensures)
 
 pub returns-in_err-check_length : goal.returns-in_err-check_length
 unfolding put_back_tests count_test pixels_of Numbered
 returns-in_err-check_length c =
     let p = err_from_is_err_and c.from_residual-in_err-check_length.result c.from_residual-in_err-check_length.ensures.1 in
-    rw (p.1, p.2)
-    (after_record c.args.r _ c.in_ok-check_record.ensures
+    rw (p.1, p.2, ← c.in_ok-job.ensures.same)
+    (after_record _ _ (rw (← c.in_ok-job.ensures.same) at c.in_ok-job.ensures.tested)
     (passed_by _ _ (sym c.is_over.ensures ∙ c.in_ok-refuse_if.ensures.passes)
     (follows (_ ∷ _ ∷ []) _ (omega arith) c.in_ok-check_turn.ensures
     (follows (_ ∷ _ ∷ _ ∷ []) _ (omega arith) c.in_ok-check_image.ensures
-    (refused_by _ _ _ (rw c.tile_count.ensures at c.in_err-check_length.ensures.fails) refl)))))
+    (refused_by _ _ _ (rw (c.tile_count.ensures, c.tiles.ensures) at c.in_err-check_length.ensures.fails) refl)))))
 
 pub check_copy-requires : goal.check_copy-requires
-check_copy-requires c = (limits_of _ (valid_of _ c.in_ok-check_record.ensures), turn_tile _ _ c.in_ok-check_turn.ensures)
+check_copy-requires c = turn_tile _ _ c.in_ok-check_turn.ensures
 
 pub returns-in_err-check_copy : goal.returns-in_err-check_copy
 unfolding put_back_tests count_test pixels_of Numbered
 returns-in_err-check_copy c =
     let p = err_from_is_err_and c.from_residual-in_err-check_copy.result c.from_residual-in_err-check_copy.ensures.1 in
-    rw (p.1, p.2)
-    (after_record c.args.r _ c.in_ok-check_record.ensures
+    rw (p.1, p.2, ← c.in_ok-job.ensures.same)
+    (after_record _ _ (rw (← c.in_ok-job.ensures.same) at c.in_ok-job.ensures.tested)
     (passed_by _ _ (sym c.is_over.ensures ∙ c.in_ok-refuse_if.ensures.passes)
     (follows (_ ∷ _ ∷ []) _ (omega arith) c.in_ok-check_turn.ensures
     (follows (_ ∷ _ ∷ _ ∷ []) _ (omega arith) c.in_ok-check_image.ensures
-    (passed_by _ _ (rw c.tile_count.ensures at c.in_ok-check_length.ensures.passes)
+    (passed_by _ _ (rw (c.tile_count.ensures, c.tiles.ensures) at c.in_ok-check_length.ensures.passes)
     (ends_at _ (_ ∷ _ ∷ []) _ (omega arith) c.in_err-check_copy.ensures))))))
 
 pub check_state-requires : goal.check_state-requires
@@ -89,23 +78,24 @@ pub returns-in_err-check_state : goal.returns-in_err-check_state
 unfolding put_back_tests count_test pixels_of Numbered
 returns-in_err-check_state c =
     let p = err_from_is_err_and c.from_residual-in_err-check_state.result c.from_residual-in_err-check_state.ensures.1 in
-    rw (p.1, p.2)
-    (after_record c.args.r _ c.in_ok-check_record.ensures
+    rw (p.1, p.2, ← c.in_ok-job.ensures.same)
+    (after_record _ _ (rw (← c.in_ok-job.ensures.same) at c.in_ok-job.ensures.tested)
     (passed_by _ _ (sym c.is_over.ensures ∙ c.in_ok-refuse_if.ensures.passes)
     (follows (_ ∷ _ ∷ []) _ (omega arith) c.in_ok-check_turn.ensures
     (follows (_ ∷ _ ∷ _ ∷ []) _ (omega arith) c.in_ok-check_image.ensures
-    (passed_by _ _ (rw c.tile_count.ensures at c.in_ok-check_length.ensures.passes)
+    (passed_by _ _ (rw (c.tile_count.ensures, c.tiles.ensures) at c.in_ok-check_length.ensures.passes)
     (follows (_ ∷ _ ∷ []) _ (omega arith) c.in_ok-check_copy.ensures
     (ends_at _ (_ ∷ []) _ (omega arith) c.in_err-check_state.ensures)))))))
 
 pub returns : goal.returns
-unfolding put_back_tests count_test pixels_of Numbered
+unfolding put_back_tests count_test pixels_of copy_test Numbered
 returns c =
-    after_record c.args.r _ c.in_ok-check_record.ensures
+    rw (← c.in_ok-job.ensures.same)
+    (after_record _ _ (rw (← c.in_ok-job.ensures.same) at c.in_ok-job.ensures.tested)
     (passed_by _ _ (sym c.is_over.ensures ∙ c.in_ok-refuse_if.ensures.passes)
     (follows (_ ∷ _ ∷ []) _ (omega arith) c.in_ok-check_turn.ensures
     (follows (_ ∷ _ ∷ _ ∷ []) _ (omega arith) c.in_ok-check_image.ensures
-    (passed_by _ _ (rw c.tile_count.ensures at c.in_ok-check_length.ensures.passes)
+    (passed_by _ _ (rw (c.tile_count.ensures, c.tiles.ensures) at c.in_ok-check_length.ensures.passes)
     (follows (_ ∷ _ ∷ []) _ (omega arith) c.in_ok-check_copy.ensures
     (follows (_ ∷ []) _ (omega arith) c.in_ok-check_state.ensures
-    c.check_named.ensures))))))
+    c.check_indices.ensures)))))))

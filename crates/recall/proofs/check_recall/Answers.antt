@@ -10,43 +10,38 @@ use Rattle.job.proofs.Validity.{equal_of}
 use Rattle.records.proofs.RecordLaws.{limits_of, valid_of, turn_tile, record_refuses, after_record}
 use Rattle.recall.proofs.check_recall.Goals as goal
 
-pub returns-in_err-check_record : goal.returns-in_err-check_record
+pub returns-in_err-job : goal.returns-in_err-job
 unfolding recall_tests
-returns-in_err-check_record c =
+returns-in_err-job c =
     let p = err_from_is_err_and c.from_residual.result c.from_residual.ensures.1 in
     rw (p.1, p.2)
-    (record_refuses c.args.r _ _ c.in_err-check_record.ensures)
-
-pub check_turn-requires : goal.check_turn-requires
-check_turn-requires c = limits_of _ (valid_of _ c.in_ok-check_record.ensures)
+    (record_refuses c.args.r _ _ c.in_err-job.ensures.tested)
 
 pub returns-in_err-check_turn : goal.returns-in_err-check_turn
 unfolding recall_tests Numbered
 returns-in_err-check_turn c =
     let p = err_from_is_err_and c.from_residual-in_err-check_turn.result c.from_residual-in_err-check_turn.ensures.1 in
-    rw (p.1, p.2)
-    (after_record c.args.r _ c.in_ok-check_record.ensures
+    rw (p.1, p.2, ← c.in_ok-job.ensures.same)
+    (after_record _ _ (rw (← c.in_ok-job.ensures.same) at c.in_ok-job.ensures.tested)
     (ends_at _ (_ ∷ _ ∷ []) _ (omega arith) c.in_err-check_turn.ensures))
-
-pub tile_count-requires : goal.tile_count-requires
-tile_count-requires c = limits_of _ (valid_of _ c.in_ok-check_record.ensures)
 
 pub returns-in_err-check_length : goal.returns-in_err-check_length
 unfolding recall_tests Numbered
 returns-in_err-check_length c =
     let p = err_from_is_err_and c.from_residual-in_err-check_length.result c.from_residual-in_err-check_length.ensures.1 in
-    rw (p.1, p.2)
-    (after_record c.args.r _ c.in_ok-check_record.ensures
+    rw (p.1, p.2, ← c.in_ok-job.ensures.same)
+    (after_record _ _ (rw (← c.in_ok-job.ensures.same) at c.in_ok-job.ensures.tested)
     (follows (_ ∷ _ ∷ []) _ (omega arith) c.in_ok-check_turn.ensures
-    (refused_by _ _ _ (rw c.tile_count.ensures at c.in_err-check_length.ensures.fails) refl)))
+    (refused_by _ _ _ (rw (c.tile_count.ensures, c.tiles.ensures) at c.in_err-check_length.ensures.fails) refl)))
 
 pub check_state-requires : goal.check_state-requires
-check_state-requires c = omega (arith, turn_tile _ _ c.in_ok-check_turn.ensures, equal_of _ _ c.in_ok-check_length.ensures.passes ∙ c.tile_count.ensures)
+check_state-requires c = omega (arith, turn_tile _ _ c.in_ok-check_turn.ensures, rw (c.tile_count.ensures, c.tiles.ensures) at (equal_of _ _ c.in_ok-check_length.ensures.passes))
 
 pub returns : goal.returns
 unfolding recall_tests Numbered
 returns c =
-    after_record c.args.r _ c.in_ok-check_record.ensures
+    rw (← c.in_ok-job.ensures.same)
+    (after_record _ _ (rw (← c.in_ok-job.ensures.same) at c.in_ok-job.ensures.tested)
     (follows (_ ∷ _ ∷ []) _ (omega arith) c.in_ok-check_turn.ensures
-    (passed_by _ _ (rw c.tile_count.ensures at c.in_ok-check_length.ensures.passes)
-    c.check_state.ensures))
+    (passed_by _ _ (rw (c.tile_count.ensures, c.tiles.ensures) at c.in_ok-check_length.ensures.passes)
+    c.check_state.ensures)))

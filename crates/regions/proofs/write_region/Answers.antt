@@ -14,13 +14,13 @@ pub copy_part-requires : goal.copy_part-requires
 copy_part-requires c =
     let p = c.requires in
     let a = c.args in
-    record { k_bound = omega arith; holds = rw (c.image_rect-image.ensures, c.region_rect-region.ensures) (region_holds a.t p.limits.0 a.tile p.limits.1, image_holds a.t p.limits.0 a.tile p.limits.1); from_len = rw (c.image_rect-image.ensures, c.region_rect-region.ensures) (p.copy_cpe_len.0, p.cpe_len.0 ∙ ap (λ n. 3 * n) (sym (image_area a.t))) }
+    record { k_bound = omega arith; holds = rw (c.image_rect-image.ensures, c.region_rect-region.ensures) (region_holds a.t.tiling a.t.limits a.tile p.tile_bound, image_holds a.t.tiling a.t.limits a.tile p.tile_bound); from_len = rw (c.image_rect-image.ensures, c.region_rect-region.ensures) (p.copy_cpe_len.0, p.cpe_len.0 ∙ ap (λ n. 3 * n) (sym (image_area a.t.tiling))) }
 
 pub copy_part-requires-2 : goal.copy_part-requires-2
 copy_part-requires-2 c =
     let p = c.requires in
     let a = c.args in
-    record { k_bound = omega arith; holds = rw (c.image_rect-image.ensures, c.region_rect-region.ensures) (region_holds a.t p.limits.0 a.tile p.limits.1, image_holds a.t p.limits.0 a.tile p.limits.1); from_len = rw (c.image_rect-image.ensures, c.region_rect-region.ensures) (omega (arith, p.copy_cpe_len.1), omega (arith, p.cpe_len.1, image_area a.t)) }
+    record { k_bound = omega arith; holds = rw (c.image_rect-image.ensures, c.region_rect-region.ensures) (region_holds a.t.tiling a.t.limits a.tile p.tile_bound, image_holds a.t.tiling a.t.limits a.tile p.tile_bound); from_len = rw (c.image_rect-image.ensures, c.region_rect-region.ensures) (omega (arith, p.copy_cpe_len.1), omega (arith, p.cpe_len.1, image_area a.t.tiling)) }
 
 pub returns : goal.returns
 returns c =
@@ -29,6 +29,6 @@ returns c =
     let W = c.region_rect-region.result in
     let room : length a.copy_cpe.now ≡ 3 * area W = rw c.region_rect-region.ensures p.copy_cpe_len.0 in
     let places : length a.copy_indices.now ≡ 1 * area W = rw c.region_rect-region.ensures (omega (arith, p.copy_cpe_len.1)) in
-    written a.t a.tile c.image_rect-image.result W c.image_rect-image.ensures c.region_rect-region.ensures
+    written a.t.tiling a.tile c.image_rect-image.result W c.image_rect-image.ensures c.region_rect-region.ensures
     a.cpe.now a.copy_cpe.now c.copy_part.new.to room (c.copy_part.ensures nan)
     a.indices.now a.copy_indices.now c.copy_part-2.new.to places (c.copy_part-2.ensures 0)

@@ -1,7 +1,8 @@
 -- `search::evaluate` meets its contract: the pixel lies in the window, its index names an ink, and the two loops are those of the definition. Assumes nothing.
 use mathlib.Core.Path.{◌≡◌, refl}
-use Prim.Native.Nat.{◌+◌, ◌<◌}
+use Prim.Native.Nat.{◌+◌, ◌/◌, ◌<◌}
 use native.Mathlib.Omega.{arith}
+use lib.ListN.{length}
 use lib.Ieee.{neg, of_bits, round}
 use Rattle.base.specs.Limits.{max_inks}
 use Rattle.base.specs.F64.{f64}
@@ -19,10 +20,10 @@ unfolding best_of move_of of_bits round
 start_is = refl
 
 -- the pixel's ink is one of the inks
-ink : (c : After-index_at-k) → c.index_at-k.result < c.args.s.count
+ink : (c : After-index_at-k) → c.index_at-k.result < length c.args.s.setup.inks.now / 3
 ink c =
     let a = c.args in
-    omega (arith, c.index_at-k.ensures, ready_index c.requires.ready a.x a.y (held_inside a.s.tiling a.tab.w a.x a.y c.requires.held))
+    omega (arith, c.index_at-k.ensures, ready_index c.requires.ready a.x a.y (held_inside a.s.setup.tiling a.s.tab.w a.x a.y c.requires.held))
 
 pub index_at-k-requires-clause-x1_le_max_side : goal.index_at-k-requires-clause-x1_le_max_side
 index_at-k-requires-clause-x1_le_max_side c = ready_limits c.requires.ready
@@ -33,41 +34,41 @@ cpe_at-requires-clause-x1_le_max_side c = ready_limits c.requires.ready
 pub overflow_mul-k : goal.overflow_mul-k
 overflow_mul-k c = omega (arith, ink (goal.at.overflow_mul-k c).After-index_at-k, c.requires.ready.few_inks)
 
-pub values_at-v-requires : goal.values_at-v-requires
-values_at-v-requires c = omega (arith, ink (goal.at.values_at-v-requires c).After-index_at-k, c.requires.ready.inks_room)
+pub values_at-requires : goal.values_at-requires
+values_at-requires c = omega (arith, ink (goal.at.values_at-requires c).After-index_at-k, c.requires.ready.inks_room)
 
-pub places_of-places-requires-clause-findable : goal.places_of-places-requires-clause-findable
-places_of-places-requires-clause-findable c = findable c.args.tab c.requires.ready c.requires.tab_value
+pub invariant_of-around : goal.invariant_of-around
+invariant_of-around c = record { findable = findable c.args.s.tab c.requires.ready c.args.s.made; spotted = c.spot_of.ensures.2 }
 
-pub best_swap-best-requires-clause-all_fit : goal.best_swap-best-requires-clause-all_fit
-best_swap-best-requires-clause-all_fit c =
+pub best_swap-requires : goal.best_swap-requires
+best_swap-requires c =
     let p = c.spot_of.ensures in
-    all_fit c.requires.ready c.args.x c.args.y c.requires.held _ (rw (p.0, p.1) at c.places_of-places.ensures)
+    all_fit c.requires.ready c.args.x c.args.y c.requires.held _ (rw (p.0, p.1) at c.places-places.ensures)
 
 pub returns : goal.returns
 unfolding best_of
 returns c =
     let a = c.args in
     let p = c.spot_of.ensures in
-    rw c.move_of.ensures
+    rw c.from.ensures
     (evaluated
-    (shared_of a.s)
-    a.tab.w
+    (shared_of a.s.setup)
+    a.s.tab.w
     a.cpe.now
     a.indices.now
     a.x
     a.y
     c.index_at-k.result
     c.cpe_at.result
-    a.tab
+    a.s.tab
     _
     (best_of (record { cost = neg (f64 0x3e112e0be826d695); pick = max_inks + 8 }))
     (best_of c.best_toggle-toggled.result)
-    (best_of c.best_swap-best.result)
+    (best_of c.best_swap.result)
     start_is
-    c.requires.tab_value
-    (rw (p.0, p.1) at c.places_of-places.ensures)
+    a.s.made
+    (rw (p.0, p.1) at c.places-places.ensures)
     c.index_at-k.ensures
     c.cpe_at.ensures
     c.best_toggle-toggled.ensures
-    c.best_swap-best.ensures)
+    c.best_swap.ensures)

@@ -16,16 +16,18 @@ returns-in_err-eye c =
     let p = err_from_is_err_and c.from_residual.result c.from_residual.ensures.1 in
     rw (p.1, p.2) c.in_err-eye.ensures
 
-pub tile_count-requires : goal.tile_count-requires
-tile_count-requires c =
-    let s = (goal.at.tile_count-requires c).Start in
+pub invariant_of-tile_count : goal.invariant_of-tile_count
+invariant_of-tile_count c =
+    let s = (goal.at.invariant_of-tile_count c).Start in
     let l = limits (I s) _ c.in_ok-eye.ensures.0 c.in_ok-eye.ensures.1 in
     record {
-      wide = omega (arith, l.wide);
-      width_limit = omega (arith, l.width_limit);
-      height_limit = omega (arith, l.height_limit);
-      lum_limit = omega (arith, l.lum_limit, l.chroma_limit);
-      chroma_limit = omega (arith, l.lum_limit, l.chroma_limit);
+      limits = record {
+        wide = omega (arith, l.wide);
+        width_limit = omega (arith, l.width_limit);
+        height_limit = omega (arith, l.height_limit);
+        lum_limit = omega (arith, l.lum_limit, l.chroma_limit);
+        chroma_limit = omega (arith, l.lum_limit, l.chroma_limit);
+      };
     }
 
 pub overflow_mul-result : goal.overflow_mul-result

@@ -7,4 +7,4 @@ pub returns : goal.returns
 returns c =
     let a = c.args in
     let e : c.loop-i.i ≡ a.s.pixels = omega arith in
-    rw c.loop-i.invariant (rw e (span_row_is a.channels a.a a.cpp.now a.s a.cpe.now c.requires))
+    rw c.loop-i.invariant (rw e (span_row_is a.channels a.cpp.now a.s a.cpe.now c.requires))

@@ -4,4 +4,4 @@ use Rattle.spans.specs.Spans.{add_pixels}
 use Rattle.spans.proofs.add_span.Given as goal
 
 abbrev pub invariant-loop-i : goal.invariant-loop-i
-invariant-loop-i l = l.row ≡ add_pixels l.channels l.a l.kernel l.i l.initial.row
+invariant-loop-i l = l.row ≡ add_pixels l.channels l.s.a l.kernel l.i l.initial.row

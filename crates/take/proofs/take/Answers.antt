@@ -30,11 +30,14 @@ returns-in_err-check_take c =
     let p = err_from_is_err_and c.from_residual.result c.from_residual.ensures.1 in
     rw (p.1, p.2) ((take_answers c.args.r c.args.tile (image s) c.args.tile_states.now (copies s)).kept _ c.in_err-check_take.ensures (refusal_ne _))
 
+pub invariant_of-t : goal.invariant_of-t
+invariant_of-t c = let v = valid (goal.at.invariant_of-t c).Start c.in_ok-check_take.ensures in record { limits = limits_of c.args.r v.on.valid }
+
 pub copy_region-requires : goal.copy_region-requires
 unfolding pixels_of
 copy_region-requires c =
     let v = valid (goal.at.copy_region-requires c).Start c.in_ok-check_take.ensures in
-    record { limits = (limits_of c.args.r v.on.valid, v.on.tile_has); cpe_len = (v.on.cpe_length, v.on.indices_length); copy_cpe_len = (v.room.cpe_length, v.room.indices_length) }
+    record { tile_bound = v.on.tile_has; cpe_len = (v.on.cpe_length, v.on.indices_length); copy_cpe_len = (v.room.cpe_length, v.room.indices_length) }
 
 pub bounds-tile_states-i : goal.bounds-tile_states-i
 bounds-tile_states-i c = let v = valid (goal.at.bounds-tile_states-i c).Start c.in_ok-check_take.ensures in omega (arith, v.on.tile_has, v.on.states_length)

@@ -9,42 +9,36 @@ use Rattle.job.specs.Take.{take_tests}
 use Rattle.records.proofs.RecordLaws.{limits_of, valid_of, turn_tile, image_states, record_refuses, after_record}
 use Rattle.taketests.proofs.check_take.Goals as goal
 
-pub returns-in_err-check_record : goal.returns-in_err-check_record
+pub returns-in_err-job : goal.returns-in_err-job
 unfolding take_tests
-returns-in_err-check_record c =
+returns-in_err-job c =
     let p = err_from_is_err_and c.from_residual.result c.from_residual.ensures.1 in
-    rw (p.1, p.2) (record_refuses c.args.r _ _ c.in_err-check_record.ensures)
-
-pub check_turn-requires : goal.check_turn-requires
-check_turn-requires c = limits_of _ (valid_of _ c.in_ok-check_record.ensures)
+    rw (p.1, p.2) (record_refuses c.args.r _ _ c.in_err-job.ensures.tested)
 
 pub returns-in_err-check_turn : goal.returns-in_err-check_turn
 unfolding take_tests Numbered
 returns-in_err-check_turn c =
     let p = err_from_is_err_and c.from_residual-in_err-check_turn.result c.from_residual-in_err-check_turn.ensures.1 in
-    rw (p.1, p.2) (after_record c.args.r _ c.in_ok-check_record.ensures (ends_at _ (_ ∷ _ ∷ []) _ (omega arith) c.in_err-check_turn.ensures))
-
-pub check_image-requires : goal.check_image-requires
-check_image-requires c = limits_of _ (valid_of _ c.in_ok-check_record.ensures)
+    rw (p.1, p.2, ← c.in_ok-job.ensures.same) (after_record _ _ (rw (← c.in_ok-job.ensures.same) at c.in_ok-job.ensures.tested) (ends_at _ (_ ∷ _ ∷ []) _ (omega arith) c.in_err-check_turn.ensures))
 
 pub returns-in_err-check_image : goal.returns-in_err-check_image
 unfolding take_tests pixels_of Numbered
 returns-in_err-check_image c =
     let p = err_from_is_err_and c.from_residual-in_err-check_image.result c.from_residual-in_err-check_image.ensures.1 in
-    rw (p.1, p.2)
-    (after_record c.args.r _ c.in_ok-check_record.ensures
+    rw (p.1, p.2, ← c.in_ok-job.ensures.same)
+    (after_record _ _ (rw (← c.in_ok-job.ensures.same) at c.in_ok-job.ensures.tested)
     (follows (_ ∷ _ ∷ []) _ (omega arith) c.in_ok-check_turn.ensures
     (ends_at _ (_ ∷ _ ∷ _ ∷ []) _ (omega arith) c.in_err-check_image.ensures)))
 
 pub check_copy-requires : goal.check_copy-requires
-check_copy-requires c = (limits_of _ (valid_of _ c.in_ok-check_record.ensures), turn_tile _ _ c.in_ok-check_turn.ensures)
+check_copy-requires c = turn_tile _ _ c.in_ok-check_turn.ensures
 
 pub returns-in_err-check_copy : goal.returns-in_err-check_copy
 unfolding take_tests pixels_of Numbered
 returns-in_err-check_copy c =
     let p = err_from_is_err_and c.from_residual-in_err-check_copy.result c.from_residual-in_err-check_copy.ensures.1 in
-    rw (p.1, p.2)
-    (after_record c.args.r _ c.in_ok-check_record.ensures
+    rw (p.1, p.2, ← c.in_ok-job.ensures.same)
+    (after_record _ _ (rw (← c.in_ok-job.ensures.same) at c.in_ok-job.ensures.tested)
     (follows (_ ∷ _ ∷ []) _ (omega arith) c.in_ok-check_turn.ensures
     (follows (_ ∷ _ ∷ _ ∷ []) _ (omega arith) c.in_ok-check_image.ensures
     (ends_at _ (_ ∷ _ ∷ []) _ (omega arith) c.in_err-check_copy.ensures))))
@@ -55,7 +49,8 @@ check_state-requires c = omega (arith, turn_tile _ _ c.in_ok-check_turn.ensures,
 pub returns : goal.returns
 unfolding take_tests pixels_of Numbered
 returns c =
-    after_record c.args.r _ c.in_ok-check_record.ensures
+    rw (← c.in_ok-job.ensures.same)
+    (after_record _ _ (rw (← c.in_ok-job.ensures.same) at c.in_ok-job.ensures.tested)
     (follows (_ ∷ _ ∷ []) _ (omega arith) c.in_ok-check_turn.ensures
     (follows (_ ∷ _ ∷ _ ∷ []) _ (omega arith) c.in_ok-check_image.ensures
-    (follows (_ ∷ _ ∷ []) _ (omega arith) c.in_ok-check_copy.ensures c.check_state.ensures)))
+    (follows (_ ∷ _ ∷ []) _ (omega arith) c.in_ok-check_copy.ensures c.check_state.ensures))))

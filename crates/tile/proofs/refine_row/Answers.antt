@@ -1,11 +1,10 @@
 -- `tile::refine_row` meets its contract: between two pixels the slices are the definition's state (`Turns`). Assumes nothing.
-use native.Mathlib.Omega.{arith}
 use lib.ListN.{length}
 use Rattle.base.specs.Grid.{Inside}
 use Rattle.search.specs.Shared.{Shared, shared_of}
-use Rattle.tile.specs.Tile.{State, state, visit_of, refine_row}
+use Rattle.tile.specs.Tile.{State, state, visit_of}
 use Rattle.tile.proofs.Keeps.{covers_held, visit_sound}
-use Rattle.tile.proofs.Walked.{turns_none, turns_more, turns_all, ready_again, visit_most}
+use Rattle.tile.proofs.Walked.{turns_none, turns_more, visit_most}
 use Rattle.tile.proofs.refine_row.Goals.{In-loop-x}
 use Rattle.tile.proofs.refine_row.Goals as goal
 
@@ -18,27 +17,13 @@ loop-x-init c =
     let q = c.args.q in
     turns_none 1 _ q.x0 q.x1 c.requires.ready c.requires.covers.x_order
 
-pub visit-n-requires : goal.visit-n-requires
-visit-n-requires c =
-    let at = (goal.at.visit-n-requires c).In-loop-x in
-    let a = c.args in
-    let w = c.loop-x.invariant.walked in
-    let k = c.requires.covers in
-    record { ready = ready_again c.loop-x.cpe c.requires.ready w.sound; held = covers_held a.s.tiling a.tab.w a.q c.loop-x.x a.y k (inside at); tab_value = c.requires.tab_value; accepted_bound = omega (arith, w.count, c.requires.y0_le_y.2, k.in_x, c.requires.ready.limits.width_limit, c.loop-x-test.true) }
-
 pub loop-x-preserved : goal.loop-x-preserved
 loop-x-preserved c =
     let at = (goal.at.loop-x-preserved c).In-loop-x in
     let l = c.loop-x in
     let a = c.args in
-    let S : Shared = shared_of a.s in
+    let S : Shared = shared_of a.s.setup in
     let now : State = state l.cpe l.indices l.n in
-    let held = covers_held a.s.tiling a.tab.w a.q l.x a.y c.requires.covers (inside at) in
-    turns_more 1 (λ x. visit_of S a.tab.w x a.y) a.q.x0 a.q.x1 c.visit-n.new.cpe _ _ l.invariant c.loop-x-test.true c.visit-n.ensures
-    (visit_sound S a.tab.w a.indices.now (length a.cpe.now) l.x a.y now held l.invariant.walked.sound) (visit_most S a.tab.w l.x a.y now)
-
-pub returns : goal.returns
-unfolding refine_row
-returns c =
-    let q = c.args.q in
-    turns_all 1 _ q.x0 q.x1 c.loop-x.invariant (omega (arith, c.loop-x-test.false))
+    let held = covers_held a.s.setup.tiling a.s.tab.w a.q l.x a.y c.requires.covers (inside at) in
+    turns_more 1 (λ x. visit_of S a.s.tab.w x a.y) a.q.x0 a.q.x1 c.visit-n.new.cpe _ _ l.invariant c.loop-x-test.true c.visit-n.ensures
+    (visit_sound S a.s.tab.w a.indices.now (length a.cpe.now) l.x a.y now held l.invariant.walked.sound) (visit_most S a.s.tab.w l.x a.y now)

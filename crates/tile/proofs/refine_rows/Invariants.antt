@@ -7,5 +7,5 @@ use Rattle.tile.proofs.refine_rows.Given as goal
 
 abbrev pub invariant-loop-y : goal.invariant-loop-y
 invariant-loop-y l =
-    let S = shared_of l.s in
-    Turns S l.tab.w max_side (refine_row S l.tab.w l.q) l.initial.cpe l.initial.indices l.initial.n l.q.y0 l.q.y1 l.y l.cpe l.indices l.n
+    let S = shared_of l.s.setup in
+    Turns S l.s.tab.w max_side (refine_row S l.s.tab.w l.q) l.initial.cpe l.initial.indices l.initial.n l.q.y0 l.q.y1 l.y l.cpe l.indices l.n

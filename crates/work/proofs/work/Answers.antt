@@ -1,6 +1,8 @@
 -- `work` meets its contract: a refusal keeps all, and a valid work refines the tile on its copy. Assumes nothing.
+use Prim.Native.Nat.{◌/◌}
 use native.Mathlib.Omega.{arith}
 use mathlib.Core.Path.{◌≡◌, refl}
+use lib.ListN.{length}
 use Rattle.std.proofs.lemmas.Result.{err_from_is_err_and}
 use Rattle.base.specs.Refusal.{judge, accepted}
 use Rattle.base.proofs.JudgeLaws.{refusal_ne}
@@ -23,21 +25,30 @@ valid : (s : Start) → accepted ≡ judge (work_tests s.args.r s.args.tile s.ar
     ValidWork s.args.r s.args.tile s.args.pinned.now s.args.cpp.now (copies s) s.args.inks.now
 valid s e = (work_passes _ _ _ _ _ _).0 ((work_answers s.args.r s.args.tile s.args.pinned.now s.args.cpp.now (copies s) s.args.inks.now).passed accepted e refl)
 
+-- the inks are as many as the plan's
+inks_are : (s : Start) → accepted ≡ judge (work_tests s.args.r s.args.tile s.args.pinned.now s.args.cpp.now (copies s) s.args.inks.now) → length s.args.inks.now / 3 ≡ s.args.r.plan.inks
+inks_are s e = omega (arith, (valid s e).inks_length)
+
 pub returns-in_err-check_work : goal.returns-in_err-check_work
 returns-in_err-check_work c =
     let s = (goal.at.returns-in_err-check_work c).Start in
     let p = err_from_is_err_and c.from_residual.result c.from_residual.ensures.1 in
     rw (p.1, p.2) ((work_answers c.args.r c.args.tile c.args.pinned.now c.args.cpp.now (copies s) c.args.inks.now).kept _ c.in_err-check_work.ensures (refusal_ne _))
 
+pub invariant_of-t : goal.invariant_of-t
+invariant_of-t c =
+    let start = (goal.at.invariant_of-t c).Start in
+    let v = valid start c.in_ok-check_work.ensures in record { limits = limits_of c.args.r v.valid }
+
 pub region_rect-region-requires : goal.region_rect-region-requires
 region_rect-region-requires c =
     let start = (goal.at.region_rect-region-requires c).Start in
-    let v = valid start c.in_ok-check_work.ensures in record { limits = limits_of c.args.r v.valid; tile_bound = v.tile_has }
+    let v = valid start c.in_ok-check_work.ensures in v.tile_has
 
 pub tile_rect-rect-requires : goal.tile_rect-rect-requires
 tile_rect-rect-requires c =
     let start = (goal.at.tile_rect-rect-requires c).Start in
-    let v = valid start c.in_ok-check_work.ensures in record { limits = limits_of c.args.r v.valid; tile_bound = v.tile_has }
+    let v = valid start c.in_ok-check_work.ensures in v.tile_has
 
 pub refine_tile-requires : goal.refine_tile-requires
 unfolding pixels_of
@@ -46,7 +57,7 @@ refine_tile-requires c =
     let T = c.args.r.plan.tiling in
     let v = valid s c.in_ok-check_work.ensures in
     record {
-      ready = rw c.region_rect-region.ensures (record {
+      ready = rw (c.region_rect-region.ensures, inks_are s c.in_ok-check_work.ensures) (record {
         limits = limits_of c.args.r v.valid;
         lum_least = omega (arith, v.valid.lum.low);
         chroma_least = omega (arith, v.valid.chroma.low);
@@ -67,5 +78,5 @@ unfolding refined_copy job_shared
 returns c =
     let s = (goal.at.returns c).Start in
     let a = c.args in
-    rw (c.refine_tile.ensures, c.region_rect-region.ensures, c.tile_rect-rect.ensures)
+    rw (c.refine_tile.ensures, c.region_rect-region.ensures, c.tile_rect-rect.ensures, inks_are s c.in_ok-check_work.ensures)
     ((work_answers a.r a.tile a.pinned.now a.cpp.now (copies s) a.inks.now).made accepted c.in_ok-check_work.ensures refl)

@@ -1,20 +1,17 @@
--- `word_over` meets its contract: a value that differs from itself is the NaN. Assumes nothing.
-use mathlib.Core.Path.{sym, ap, ◌∙◌}
-use lib.Ieee.{is_nan, binary64, to_bits}
-use Rattle.bits.proofs.NanLaws.{self_equal, self_unequal}
+-- `word_over` meets its contract: the second test counts only where the first holds. Assumes nothing.
+use mathlib.Core.Path.{sym, ◌∙◌}
 use Rattle.job.specs.Words.{word_over}
+use Rattle.written.proofs.word_over.Goals.{else-is_nan-via-then-is_nan+else-is_nan-2, else-is_nan-via-else-is_nan}
 use Rattle.written.proofs.word_over.Goals as goal
 
-pub returns-then-x : goal.returns-then-x
+pub returns-then-is_nan-2 : goal.returns-then-is_nan-2
 unfolding word_over
-returns-then-x c = rw (self_equal c.args.x c.if-x.true) c.of_float.ensures
-
-pub returns-then-is_nan : goal.returns-then-is_nan
-unfolding word_over is_nan
-returns-then-is_nan c = rw (self_unequal c.args.x c.if-x.false, sym c.is_nan.ensures ∙ c.if-is_nan.true)
+returns-then-is_nan-2 c = rw (sym c.is_nan.ensures.value ∙ c.if-is_nan.true, sym c.is_nan-then-is_nan.ensures ∙ c.if-is_nan-2.true)
 
 pub returns : goal.returns
-unfolding word_over is_nan
+unfolding word_over
 returns c =
-    let e = self_unequal c.args.x c.if-x.false in
-    rw (e, sym c.is_nan.ensures ∙ c.if-is_nan.false) (c.of_float-2.ensures ∙ ap (to_bits binary64) e)
+    elim c.else-is_nan.branch [
+      | else-is_nan-via-then-is_nan+else-is_nan-2 w ↦ rw (sym c.is_nan.ensures.value ∙ w.if-is_nan.true, sym w.is_nan-then-is_nan.ensures ∙ w.if-is_nan-2.false) c.of_float.ensures
+      | else-is_nan-via-else-is_nan w ↦ rw (sym c.is_nan.ensures.value ∙ w.if-is_nan.false) c.of_float.ensures
+    ]

@@ -7,10 +7,10 @@ pub returns-then-is_pinned : goal.returns-then-is_pinned
 unfolding error_at target_at halftone_at
 returns-then-is_pinned c =
     let flag = sym c.is_pinned.ensures ∙ c.if-is_pinned.true in
-    rw (c.sub.ensures, c.values_at-ink.ensures, flag)
+    rw (c.sub.ensures, c.values_at-ink.ensures, c.from-k.ensures, flag)
 
 pub returns : goal.returns
 unfolding error_at target_at halftone_at colour_at
 returns c =
     let flag = sym c.is_pinned.ensures ∙ c.if-is_pinned.false in
-    rw (c.sub-2.ensures, c.values_at-ink.ensures, c.srgb_to_yycxcz-colour.ensures, flag)
+    rw (c.sub-2.ensures, c.values_at-ink.ensures, c.from-k.ensures, c.srgb_to_yycxcz-colour.ensures, flag)

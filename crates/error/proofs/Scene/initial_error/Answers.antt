@@ -23,4 +23,4 @@ returns c =
     let yy = rw e at (c.loop-i.invariant 0) in
     let cx = rw e at (c.loop-i.invariant 1) in
     let cz = rw e at (c.loop-i.invariant 2) in
-    rw (← c.requires.size.0, ← c.requires.size.1, yy, cx, cz)
+    rw (yy, cx, cz)

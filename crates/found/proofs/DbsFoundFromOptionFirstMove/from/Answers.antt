@@ -9,8 +9,8 @@ pub returns-in-Some : goal.returns-in-Some
 unfolding searched_of
 returns-in-Some c =
     let z = c.default.ensures in
-    let e : record { number = c.default.result.number; place = c.default.result.place; found = 1; pixel = c.in-Some.m.pixel; kind = c.kind_number.result; cost = c.in-Some.m.cost } ≡ searched_of (Some c.in-Some.m) =
-    λ i. record { number = z.0 i; place = z.1.0 i; found = 1; pixel = c.in-Some.m.pixel; kind = c.kind_number.ensures i; cost = c.in-Some.m.cost } in
+    let e : record { number = c.default.result.number; place = c.default.result.place; found = 1; pixel = c.in-Some.m.pixel; kind = c.from.result; cost = c.in-Some.m.cost } ≡ searched_of (Some c.in-Some.m) =
+    λ i. record { number = z.0 i; place = z.1.0 i; found = 1; pixel = c.in-Some.m.pixel; kind = c.from.ensures i; cost = c.in-Some.m.cost } in
     e ∙ ap searched_of (sym c.in-Some.is)
 
 pub returns-in-None : goal.returns-in-None

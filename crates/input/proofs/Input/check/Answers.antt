@@ -1,5 +1,4 @@
 -- `Input::check` meets its contract: it makes the two lists of tests one after the other. Assumes nothing.
-use Rattle.std.proofs.Common.{◌≡◌, length}
 use Rattle.std.proofs.lemmas.Result.{err_from_is_err_and}
 use native.Mathlib.Omega.{arith}
 use Rattle.base.proofs.RefusalLaws.{Numbered}

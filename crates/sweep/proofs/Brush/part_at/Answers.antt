@@ -8,4 +8,4 @@ returns c =
     let a = c.args in
     let b = c.args.self in
     let y = c.requires.y0_le_y in
-    rw (c.place.ensures, c.kernel_place.ensures) (row_span b.kernel b.window a.m a.c a.y c.requires.part b.fits.most y.0 y.1 (omega (arith, b.fits.room, b.fits.all)) _ refl refl refl)
+    rw (c.place.ensures, c.place-2.ensures) (row_span b.kernel b.window a.m a.c a.y c.requires.part b.fits.most y.0 y.1 (omega (arith, b.fits.room, b.fits.all)) _ refl refl refl refl)

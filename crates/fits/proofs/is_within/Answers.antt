@@ -1,9 +1,0 @@
--- `is_within` meets its contract: the second test counts only where the first holds. Assumes nothing.
-use borrow.Author.Tests.{le-leb, lt-leb}
-use Rattle.fits.proofs.is_within.Goals as goal
-
-pub returns-then-low-x : goal.returns-then-low-x
-returns-then-low-x c = rw (le-leb _ _ c.if-low-x.true)
-
-pub returns-else-low-x : goal.returns-else-low-x
-returns-else-low-x c = rw (lt-leb _ _ c.if-low-x.false)

@@ -1,8 +1,0 @@
--- `Tiling::margin` meets its contract: `larger` is the larger radius, and at most 32.
-use native.Mathlib.Omega.{arith}
-use Rattle.tiling.specs.Tiling.{margin}
-use Rattle.tiling.proofs.Tiling.margin.Goals as goal
-
-pub returns : goal.returns
-unfolding margin
-returns c = omega arith
