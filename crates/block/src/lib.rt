@@ -43,7 +43,8 @@ impl Block {
         requires row_reaches { RowReaches scene.height self y }
         ensures { Spread self.lines (row_top self y + 1 - side self) (min self.rows (row_top self y + 1)) (λ i j. sum_row scene.entry.width self (image_of scene.entry) taps.now (self.x + j) (self.y + i) y) sums.old sums.new }
     {
-        scene.channel_errors(self.channel, self.x.saturating_sub(self.before), y, line);
+        let x = self.x.saturating_sub(self.before);
+        scene.view().channel_errors(self.channel, x, y, line);
         let size = self.before + self.after + 1;
         let top = y + self.before - self.y;
         correlate::spread(

@@ -35,10 +35,12 @@ pub fn value_count(radius: usize) -> usize
 }
 
 // The Gaussian at the distances -r to r, not yet normalised.
-fn gaussian_line(sigma: f64, r: usize, g: &mut [f64])
-    requires { (r ≤ 16) × (length g.old ≡ kernel_side r) }
-    ensures { g.new ≡ gaussian_line sigma r }
+fn gaussian_line(width: Width, g: &mut [f64])
+    requires { length g.old ≡ kernel_side (blur_radius width.sigma) }
+    ensures { g.new ≡ gaussian_line width.sigma (blur_radius width.sigma) }
 {
+    let sigma = width.sigma;
+    let r = width.radius();
     for (i, x) in g.iter_mut().enumerate() {
         let d = i as f64 - r as f64;
         *x = exp::exp(-(d * d) / (2.0 * sigma * sigma));
@@ -65,17 +67,16 @@ fn blur_from(g: &[f64], p: &mut [f64])
     }
 }
 
-// The blur of a given radius; g is room for the line.
-fn blur_into(sigma: f64, r: usize, g: &mut [f64], p: &mut [f64])
-    requires { (r ≤ 16) × (length g.old ≡ kernel_side r) × (length p.old ≡ values r) }
-    ensures { p.new ≡ blur_of (gaussian_line sigma r) }
+// The blur of a width; g is room for the line.
+fn blur_into(width: Width, g: &mut [f64], p: &mut [f64])
+    requires { (length g.old ≡ kernel_side (blur_radius width.sigma)) × (length p.old ≡ values (blur_radius width.sigma)) }
+    ensures { p.new ≡ gaussian_blur width.sigma }
 {
-    gaussian_line(sigma, r, g);
+    gaussian_line(width, g);
     blur_from(g, p);
 }
 
 // Normalised (unit-sum) sampled Gaussian, truncated at its blur radius, in room for it or more.
-#[tactic(auto, unfolding(crate::specs::Blur::gaussian_blur))]
 pub fn gaussian_blur<'a>(width: Width, room: &'a mut [f64]) -> Blur<'a>
     requires { values (blur_radius width.sigma) ≤ length room.old }
     ensures values_are { result.values.now ≡ gaussian_blur width.sigma }
@@ -85,6 +86,6 @@ pub fn gaussian_blur<'a>(width: Width, room: &'a mut [f64]) -> Blur<'a>
     let side = kernel_side(radius);
     let mut line = [0.0f64; 33];
     let values = &mut room[..value_count(radius)];
-    blur_into(width.sigma, radius, &mut line[..side], values);
+    blur_into(width, &mut line[..side], values);
     Blur { values, radius }
 }

@@ -33,16 +33,16 @@ pub struct Rest {
 #[tactic(auto, using(base::proofs::LoopLaws::from_to_none, base::proofs::LoopLaws::from_to_more, crate::proofs::Laws::share_row_is), unfolding(crate::specs::Both::share_of))]
 #[inline(always)]
 fn share_rows(cpe: &mut [f64], b: Brush<'_>, m: Source, n: Source, s: Shared)
-    requires cpe_len { length cpe.old ≡ 3 * area b.window }
-    requires shares { Shares b.kernel b.window m n s }
-    ensures { cpe.new ≡ share_of b.entry.channels b.entry.cpp.now b.entry.kernel b.entry.window m n s cpe.old }
+    requires cpe_len { length cpe.old ≡ 3 * area b.cut.window }
+    requires shares { Shares b.cut.kernel b.cut.window m n s }
+    ensures { cpe.new ≡ share_of b.entry.channels b.entry.cpp.now b.entry.cut.kernel b.entry.cut.window m n s cpe.old }
 {
     for y in s.common.y0..s.common.y1 {
-        let common = b.part_at(m, s.common, y);
-        let other = b.part_at(n, s.common, y);
+        let common = b.cut.part_at(m, s.common, y);
+        let other = b.cut.part_at(n, s.common, y);
         spans::add_spans(cpe, b.cpp, b.channels, common, other);
-        spans::add_pixel(cpe, b.cpp, b.channels, b.part_at(m, s.one, y));
-        spans::add_pixel(cpe, b.cpp, b.channels, b.part_at(n, s.two, y));
+        spans::add_pixel(cpe, b.cpp, b.channels, b.cut.part_at(m, s.one, y));
+        spans::add_pixel(cpe, b.cpp, b.channels, b.cut.part_at(n, s.two, y));
     }
 }
 
@@ -96,12 +96,12 @@ fn alone(f: Rect, g: Rect, c: Rect) -> Rest
 #[tactic(auto, using(crate::proofs::Laws::one_rows, crate::proofs::Laws::two_rows))]
 #[inline(always)]
 fn sweep_both(cpe: &mut [f64], b: Brush<'_>, m: Source, n: Source)
-    requires cpe_len { length cpe.old ≡ 3 * area b.window }
-    requires twins { Twins b.window m n }
-    ensures { cpe.new ≡ sweep_of b.entry.channels n.a b.entry.cpp.now b.entry.kernel b.entry.window n.x n.y (sweep_of b.entry.channels m.a b.entry.cpp.now b.entry.kernel b.entry.window m.x m.y cpe.old) }
+    requires cpe_len { length cpe.old ≡ 3 * area b.cut.window }
+    requires twins { Twins b.cut.window m n }
+    ensures { cpe.new ≡ sweep_of b.entry.channels n.a b.entry.cpp.now b.entry.cut.kernel b.entry.cut.window n.x n.y (sweep_of b.entry.channels m.a b.entry.cpp.now b.entry.cut.kernel b.entry.cut.window m.x m.y cpe.old) }
 {
-    let f = b.footprint(m);
-    let g = b.footprint(n);
+    let f = b.cut.footprint(m);
+    let g = b.cut.footprint(n);
     let common = common(f, g);
     let one = alone(f, g, common);
     let two = alone(g, f, common);

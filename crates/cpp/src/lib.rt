@@ -19,6 +19,8 @@ pub struct Kernel2D {
 
 impl Kernel2D {
     // Its columns, and its rows.
+    // Kept: the sum that `kernel_side` of blur is: neither crate knows the other, and one function in base, which has nothing of kernels,
+    // would be no plainer.
     pub fn size(self) -> usize
         requires { self.radius ≤ max_radius }
         ensures { result ≡ size self }
@@ -73,7 +75,8 @@ impl<'a> Stored<'a> {
     }
 }
 
-// Kept: two kernels of a line each, that differ in both fields: one function would take what tells them apart, and is no plainer.
+// Kept: sweep tells the two apart by `Channels`, field by `Channel`, and tables takes both: one function by either would want the other
+// turned into it by as long a match, and is no plainer.
 pub fn lum_kernel(t: Tiling) -> Kernel2D
     ensures { result ≡ lum_kernel t }
 {

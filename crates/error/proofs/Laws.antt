@@ -8,6 +8,7 @@ use Rattle.base.proofs.Bounds.{index_lt}
 use Rattle.color.specs.declared.YyCxCz.{YyCxCz}
 use Rattle.color.specs.Inks.{channel}
 use Rattle.error.specs.Error.{Scene, SceneFits, PixelFits}
+use Rattle.error.specs.Rows.{RowHolds}
 
 -- what is done to each of the three channels is done to channel c
 pub channelwise : (f : Float → Float → Float → Float) (s a b : YyCxCz) (c : ℕ) →
@@ -34,6 +35,10 @@ pixel_fits w h G x y f p q =
       pixel = omega (arith, f.pixels, i);
       ink = f.named (y * w + x) i;
     }
+
+-- pixels of one of its rows
+pub row_holds : (w h : ℕ) (G : Scene) (x y n : ℕ) → SceneFits w h G → x + n ≤ w → y < h → RowHolds w G x y n
+row_holds w h G x y n f p q = record { pixel = λ i l. pixel_fits w h G (x + i) y f (omega (arith, p, l)) q; right = omega (arith, p, f.width_limit) }
 
 -- ---- pixel number i
 

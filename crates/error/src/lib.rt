@@ -7,12 +7,56 @@ ghost use Rattle.std.specs.Prelude.{◌≡◌, ℕ, ◌+◌, ◌*◌, ◌<◌, �
 ghost use Rattle.base.specs.Loop.{table};
 ghost use Rattle.base.specs.F64.{◌+f◌, ◌*f◌};
 ghost use Rattle.color.specs.Inks.{channel, number};
-ghost use Rattle.error.specs.Error.{scene, error_at, initial_error, SceneFits};
-ghost use Rattle.error.specs.Rows.{error_in_row};
+ghost use Rattle.error.specs.Error.{scene, error_at, initial_error, SceneFits, PixelFits};
+ghost use Rattle.error.specs.Rows.{RowHolds, error_in_row};
 
 use base::Index;
 use color::{Channel, YyCxCz};
 use pins::Pins;
+
+// What the error of a pixel is read from: the lists of a scene, or of a part of one.
+#[derive(Clone, Copy)]
+pub struct View<'a> {
+    pub width: usize,
+    pub pixels: &'a [u8],
+    pub indices: &'a [Index],
+    pub pinned: &'a [u8],
+    pub inks: &'a [f64],
+}
+
+impl View<'_> {
+    ghost use Rattle.error.specs.Scenes.{seen_in};
+
+    // The error of pixel (x, y): its ink less its target, which is its colour or, where it is pinned, its own ink.
+    pub fn error_at(self, x: usize, y: usize) -> YyCxCz
+        requires { PixelFits self.width (seen_in self) x y }
+        ensures { result ≡ error_at self.entry.width (seen_in self.entry) x y }
+    {
+        let i = y * self.width + x;
+        let k = usize::from(self.indices[i]);
+        let ink = color::values_at(self.inks, 3 * k);
+        let j = 3 * i;
+        let colour = color::srgb_to_yycxcz(self.pixels[j], self.pixels[j + 1], self.pixels[j + 2]);
+        let pins = Pins {
+            pinned: self.pinned,
+            width: self.width,
+        };
+        if pins.is_pinned(x, y) {
+            return ink - ink;
+        }
+        ink - colour
+    }
+
+    // A channel of the errors in row y, from column x on.
+    pub fn channel_errors(self, c: Channel, x: usize, y: usize, line: &mut [f64])
+        requires { RowHolds self.width (seen_in self) x y (length line.old) }
+        ensures { line.new ≡ table (length line.old) (error_in_row self.entry.width (seen_in self.entry) (number c) x y) }
+    {
+        for (i, value) in line.iter_mut().enumerate() {
+            *value = self.error_at(x + i, y).channel(c);
+        }
+    }
+}
 
 // What errors are made of, each list row by row: the target, the halftone, the pin mask and the ink values.
 #[derive(Clone, Copy)]
@@ -38,7 +82,7 @@ fn add_products(s: YyCxCz, a: YyCxCz, b: YyCxCz) -> YyCxCz
 }
 
 impl<'a> Scene<'a> {
-    ghost use Rattle.error.specs.Scenes.{image_of, unpinned_of};
+    ghost use Rattle.error.specs.Scenes.{seen_in, image_of, unpinned_of};
 
     // The same with nothing pinned.
     pub fn unpinned(self) -> Scene<'a>
@@ -55,33 +99,17 @@ impl<'a> Scene<'a> {
         }
     }
 
-    // The error of pixel (x, y): its ink less its target, which is its colour or, where it is pinned, its own ink.
-    pub fn error_at(self, x: usize, y: usize) -> YyCxCz
-        requires { (x < self.width) × (y < self.height) }
-        ensures { result ≡ error_at self.entry.width (image_of self.entry) x y }
+    // What is read of it.
+    pub fn view(self) -> View<'a>
+        ensures width { result.width ≡ self.entry.width }
+        ensures image { seen_in result ≡ image_of self.entry }
     {
-        let i = y * self.width + x;
-        let k = usize::from(self.indices[i]);
-        let ink = color::values_at(self.inks, 3 * k);
-        let j = 3 * i;
-        let colour = color::srgb_to_yycxcz(self.pixels[j], self.pixels[j + 1], self.pixels[j + 2]);
-        let pins = Pins {
-            pinned: self.pinned,
+        View {
             width: self.width,
-        };
-        if pins.is_pinned(x, y) {
-            return ink - ink;
-        }
-        ink - colour
-    }
-
-    // A channel of the errors in row y, from column x on.
-    pub fn channel_errors(self, c: Channel, x: usize, y: usize, line: &mut [f64])
-        requires { (x + length line.old ≤ self.width) × (y < self.height) }
-        ensures { line.new ≡ table (length line.old) (error_in_row self.entry.width (image_of self.entry) (number c) x y) }
-    {
-        for (i, value) in line.iter_mut().enumerate() {
-            *value = self.error_at(x + i, y).channel(c);
+            pixels: self.pixels,
+            indices: self.indices,
+            pinned: self.pinned,
+            inks: self.inks,
         }
     }
 
@@ -91,8 +119,9 @@ impl<'a> Scene<'a> {
         ensures { result ≡ initial_error self.entry.width self.entry.height (image_of self.entry) cpe.now }
     {
         let mut s = YyCxCz::default();
+        let view = self.view();
         for i in 0..self.height * self.width {
-            let e = self.error_at(i % self.width, i / self.width);
+            let e = view.error_at(i % self.width, i / self.width);
             s = add_products(s, e, color::values_at(cpe, 3 * i));
         }
         0.0 + s.yy + s.cx + s.cz

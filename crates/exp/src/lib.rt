@@ -12,7 +12,7 @@ fn exp_series(y: f64, k: u32) -> f64
     if k > 10 {
         1.0
     } else {
-        1.0 + (y * exp_series(y, k + 1)) / (k as f64)
+        1.0 + (y * exp_series(y, k + 1)) / f64::from(k)
     }
 }
 

@@ -16,20 +16,18 @@ use eye::{DbsParams, Width};
 
 // Displaced by d = o - 2r, a blur of radius r overlaps itself in the columns (or rows) u for which
 // u + d is one too. The first of them ..
-// Kept: `r ≤ 16` of a bare radius, here and where a line is filled: a `Blur` has the fact, and is not made yet or is not read here.
-fn overlap_from(r: usize, o: usize) -> usize
-    requires { r ≤ 16 }
-    ensures { result ≡ overlap_from r o }
+fn overlap_from(p: Blur<'_>, o: usize) -> usize
+    ensures { result ≡ overlap_from p.entry.radius o }
 {
-    (2 * r).saturating_sub(o)
+    (2 * p.radius).saturating_sub(o)
 }
 
 // .. and the one past the last.
-fn overlap_to(r: usize, o: usize) -> usize
-    requires { (r ≤ 16) × (o < kernel_side (2 * r)) }
-    ensures { result ≡ overlap_to r o }
+fn overlap_to(p: Blur<'_>, o: usize) -> usize
+    requires { o < kernel_side (2 * p.radius) }
+    ensures { result ≡ overlap_to p.entry.radius o }
 {
-    kernel_side(r).min(kernel_side(2 * r) - o)
+    kernel_side(p.radius).min(kernel_side(2 * p.radius) - o)
 }
 
 // Adds to `from` the terms of c(d) in row y of p; d stands in column i, row j of c.
@@ -39,9 +37,9 @@ fn correlate_row(p: Blur<'_>, i: usize, j: usize, y: usize, from: f64) -> f64
 {
     let r = p.radius;
     let size = kernel_side(r);
-    let end = overlap_to(r, i);
+    let end = overlap_to(p, i);
     let mut s = from;
-    for x in overlap_from(r, i)..end {
+    for x in overlap_from(p, i)..end {
         let here = y * size + x;
         let there = (y + j - 2 * r) * size + (x + i - 2 * r);
         s += p.values[here] * p.values[there];
@@ -54,9 +52,9 @@ fn correlation(p: Blur<'_>, i: usize, j: usize) -> f64
     requires { Offset p.radius i j }
     ensures { result ≡ correlation_at p.entry.values.now p.entry.radius i j }
 {
-    let end = overlap_to(p.radius, j);
+    let end = overlap_to(p, j);
     let mut s = 0.0;
-    for y in overlap_from(p.radius, j)..end {
+    for y in overlap_from(p, j)..end {
         s = correlate_row(p, i, j, y, s);
     }
     s

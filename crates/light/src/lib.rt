@@ -274,5 +274,5 @@ pub fn linear(value: u8) -> f64
     ensures value { result ≡ linear value }
     ensures rule { Rule value result }
 {
-    f64::from_bits(SRGB_TO_LINEAR[value as usize])
+    f64::from_bits(SRGB_TO_LINEAR[usize::from(value)])
 }

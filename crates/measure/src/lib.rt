@@ -21,11 +21,11 @@ use error::Scene;
 
 // The next block of a band, which begins in column x and row y: as sums of the error they take, of the
 // blur's values from last to first, the pixels up to twice the radius before them.
-fn block_at(scene: Scene<'_>, c: Channel, radius: usize, x: usize, y: usize, rows: usize) -> Block
-    requires { (radius ≤ 16) × (x < scene.width + 2 * radius) }
-    ensures { result ≡ block_of (view scene.entry.width scene.entry.height radius c) x y rows }
+fn block_at(scene: Scene<'_>, taps: Blur<'_>, c: Channel, x: usize, y: usize, rows: usize) -> Block
+    requires { x < scene.width + 2 * taps.radius }
+    ensures { result ≡ block_of (view scene.entry.width scene.entry.height taps.entry.radius c) x y rows }
 {
-    let reach = 2 * radius;
+    let reach = 2 * taps.radius;
     Block {
         channel: c,
         x,
@@ -58,7 +58,7 @@ fn square_band(
 {
     sums.fill(0.0);
     for x in (0..scene.width + 2 * taps.radius).step_by(128) {
-        let b = block_at(scene, c, taps.radius, x, y, sums.len());
+        let b = block_at(scene, taps, c, x, y, sums.len());
         squares::square_block(scene, taps.values, b, line, out, sums);
     }
 }

@@ -41,7 +41,7 @@ pub fn prepare(
     ensures { Prepared (input_of given.entry) cpp.old inks.new cpp.new cpe.new result }
 {
     build(given, t, inks, cpp, cpe);
-    // Kept: as in `build`, which has lent the ink values out anew; a function that makes it would ask three clauses and give two.
+    // Kept: as in `build`; tried: if that hands it out, `inks` is lent on and has no `new`, and the check proves no `ensures*` where a body lends a `&`.
     let scene = Scene {
         width: t.width,
         height: t.height,

@@ -31,20 +31,10 @@ use Rattle.search.specs.declared.Site.{Site}
 use Rattle.search.specs.declared.Move.TheVariants.{Toggle, Swap}
 use Rattle.search.specs.Shared.{Shared, ink_at, cpe_at, index_at, Ready}
 use Rattle.search.specs.Search.{gaps, swap_cost, better_of, eligible, partner_of, swap_with, try_swap, swaps, no_move, try_toggle, toggles, evaluate_of}
-use Rattle.search.specs.Fast.{move_of, swap_by, gaps_at, swaps_by, SwapFits, AllFit}
+use Rattle.search.specs.Fast.{swap_by, gaps_at, swaps_by, SwapFits, AllFit}
 use Rattle.search.proofs.Window.{cpe_values, ready_limits}
 
 -- ---- a move as a number
-
-pub move_toggle : (j : ℕ) → j < max_inks → move_of j ≡ Toggle j
-unfolding move_of
-move_toggle j h = rw (lt-ltb j max_inks h)
-
-pub move_swap : (code : ℕ) → code < 8 → move_of (max_inks + code) ≡ Swap code
-unfolding move_of
-move_swap code h =
-    let e : max_inks + code - max_inks ≡ code = omega arith in
-    rw (le-ltb (max_inks + code) max_inks (omega arith), lt-ltb (max_inks + code) (max_inks + 8) (omega arith), e)
 
 -- tables of the window have the steps
 pub findable : {S : Shared} {n : ℕ} {indices : List ℕ} (tab : Tables) → Ready S tab.w n indices → tab ≡ tables_of S.cpp S.tiling tab.w → Findable S.pinned S.tiling tab

@@ -9,19 +9,10 @@ use Rattle.color.specs.declared.YyCxCz.{YyCxCz}
 use Rattle.color.specs.Values.{values_at, less_of}
 use Rattle.tables.specs.declared.Tables.{Tables}
 use Rattle.search.specs.declared.Best.{Best}
-use Rattle.search.specs.declared.Choice.{Choice}
 use Rattle.search.specs.declared.Site.{Site}
 use Rattle.search.specs.declared.Move.{Move}
 use Rattle.search.specs.declared.Move.TheVariants.{Stay, Toggle, Swap}
 use Rattle.search.specs.Search.{swap_cost, better_of}
-
--- ---- a move as a number
-
-unfoldable pub move_of : ℕ → Move
-move_of pick = cond (ltb pick max_inks) (Toggle pick) (cond (ltb pick (max_inks + 8)) (Swap (pick - max_inks)) Stay)
-
-unfoldable pub best_of : Choice → Best
-best_of c = record { cost = c.cost; mv = move_of c.pick }
 
 -- v is the ink of the pixel
 abbrev pub Inked : List Float → Site → YyCxCz → Type 0

@@ -8,7 +8,7 @@ ghost use Rattle.base.specs.Grid.{Inside, area};
 ghost use Rattle.base.specs.Loop.{up_to};
 ghost use Rattle.tables.specs.Tables.{tables_of};
 ghost use Rattle.search.specs.Shared.{shared_of, cpe_at, index_at, Ready, Held};
-ghost use Rattle.search.specs.Fast.{best_of, move_of, Inked, swap_by, SwapFits, swaps_by, AllFit};
+ghost use Rattle.search.specs.Fast.{Inked, swap_by, SwapFits, swaps_by, AllFit};
 ghost use Rattle.search.specs.Search.{better_of, no_move, try_toggle, evaluate_of};
 
 use base::{Index, MAX_INKS, Rect};
@@ -30,15 +30,6 @@ pub enum Move {
 pub struct Best {
     pub cost: f64,
     pub mv: Move,
-}
-
-// The same while moves are weighed, the move as a number: j for a toggle to ink j, MAX_INKS + code for a
-// swap by that code, MAX_INKS + 8 for none.
-// Kept: a number goes by registers, an enum by memory: with `Move` a pass takes 17 to 53 % more instructions (docs/DECISIONS.md).
-#[derive(Clone, Copy)]
-pub struct Choice {
-    pub cost: f64,
-    pub pick: usize,
 }
 
 // The pixel that is evaluated: its ink, and `cpe` there.
@@ -91,31 +82,13 @@ pub fn cpe_at(cpe: &[f64], w: Rect, x: usize, y: usize) -> YyCxCz
     color::values_at(cpe, base::place(3, w, x, y))
 }
 
-// The move that the number stands for, with its cost.
-impl From<Choice> for Best {
-    ghost from_gives = { λ c b. b ≡ best_of c };
-
-    #[tactic(auto, unfolding(crate::specs::Fast::best_of, crate::specs::Fast::move_of))]
-    fn from(c: Choice) -> Best {
-        let mv = if c.pick < MAX_INKS {
-            Move::Toggle(c.pick)
-        } else if c.pick < MAX_INKS + 8 {
-            Move::Swap((c.pick - MAX_INKS) as u8)
-        } else {
-            Move::Stay
-        };
-        Best { cost: c.cost, mv }
-    }
-}
-
-impl Choice {
+impl Best {
     // Only a smaller cost replaces the best.
-    #[tactic(auto, unfolding(crate::specs::Fast::best_of))]
-    fn better(self, cost: f64, pick: usize) -> Choice
-        ensures { best_of result ≡ better_of (best_of self) cost (move_of pick) }
+    fn better(self, cost: f64, mv: Move) -> Best
+        ensures { result ≡ better_of self cost mv }
     {
         if cost < self.cost {
-            return Choice { cost, pick };
+            return Best { cost, mv };
         }
         self
     }
@@ -132,23 +105,23 @@ struct Weighed<'a> {
 
 impl<'a> Weighed<'a> {
     // Ink j in the place of the pixel's, if it is another. p: the kernels at their centres.
-    #[tactic(auto, using(crate::proofs::FastLaws::move_toggle), unfolding(crate::specs::Search::try_toggle))]
-    fn try_toggle(self, p: YyCxCz, j: usize, b: Choice) -> Choice
+    #[tactic(auto, unfolding(crate::specs::Search::try_toggle))]
+    fn try_toggle(self, p: YyCxCz, j: usize, b: Best) -> Best
         requires { (3 * j + 2 < length self.inks.now) × (j < max_inks) }
-        ensures { best_of result ≡ try_toggle self.entry.inks.now p self.entry.site j (best_of b) }
+        ensures { result ≡ try_toggle self.entry.inks.now p self.entry.site j b }
     {
         if j == self.site.k {
             return b;
         }
         let a = color::values_at(self.inks, 3 * j) - self.ink;
-        b.better(cost::toggle_cost(p, a, self.site.c), j)
+        b.better(cost::toggle_cost(p, a, self.site.c), Move::Toggle(j))
     }
 
     // The best toggle: inks in ascending order.
     #[tactic(auto, using(base::proofs::LoopLaws::up_to_none, base::proofs::LoopLaws::up_to_more))]
-    fn best_toggle(self, p: YyCxCz, b: Choice) -> Choice
+    fn best_toggle(self, p: YyCxCz, b: Best) -> Best
         requires { length self.inks.now ≤ 3 * max_inks }
-        ensures { best_of result ≡ up_to (try_toggle self.entry.inks.now p self.entry.site) (length self.entry.inks.now / 3) (best_of b) }
+        ensures { result ≡ up_to (try_toggle self.entry.inks.now p self.entry.site) (length self.entry.inks.now / 3) b }
     {
         let mut best = b;
         for j in 0..self.inks.len() / 3 {
@@ -160,7 +133,7 @@ impl<'a> Weighed<'a> {
     // The swap with the pixel at place n of the window, if it has another ink. g: the kernels at their centres less beside them.
     // Kept: `code < 8` in a clause: a type of codes would be made of the number that the loop counts with, and read as
     // that number here.
-    #[tactic(auto, using(crate::proofs::FastLaws::move_swap), unfolding(crate::specs::Fast::swap_by))]
+    #[tactic(auto, unfolding(crate::specs::Fast::swap_by))]
     fn swap_at(
         self,
         cpe: &[f64],
@@ -168,11 +141,11 @@ impl<'a> Weighed<'a> {
         g: YyCxCz,
         n: usize,
         code: usize,
-        b: Choice,
-    ) -> Choice
+        b: Best,
+    ) -> Best
         requires swap_fits { SwapFits cpe.now indices.now self.inks.now n }
         requires code_bound { code < 8 }
-        ensures { best_of result ≡ swap_by self.entry.inks.now cpe.now indices.now g self.entry.site n code (best_of b) }
+        ensures { result ≡ swap_by self.entry.inks.now cpe.now indices.now g self.entry.site n code b }
     {
         let kn = usize::from(indices[n]);
         if kn == self.site.k {
@@ -180,7 +153,10 @@ impl<'a> Weighed<'a> {
         }
         let a = color::values_at(self.inks, 3 * kn) - self.ink;
         let cn = color::values_at(cpe, 3 * n);
-        b.better(cost::swap_cost(g, a, self.site.c, cn), MAX_INKS + code)
+        b.better(
+            cost::swap_cost(g, a, self.site.c, cn),
+            Move::Swap(code as u8),
+        )
     }
 
     // The best swap: neighbours by code, each at its place.
@@ -191,10 +167,10 @@ impl<'a> Weighed<'a> {
         indices: &[Index],
         tab: Tables,
         places: &[usize; 8],
-        b: Choice,
-    ) -> Choice
+        b: Best,
+    ) -> Best
         requires { AllFit cpe.now indices.now self.inks.now places.now }
-        ensures { best_of result ≡ swaps_by self.entry.inks.now cpe.now indices.now tab places.now self.entry.site 8 (best_of b) }
+        ensures { result ≡ swaps_by self.entry.inks.now cpe.now indices.now tab places.now self.entry.site 8 b }
     {
         let mut best = b;
         for (code, place) in places.iter().enumerate() {
@@ -224,9 +200,9 @@ pub fn evaluate(cpe: &[f64], indices: &[Index], s: Tabled<'_>, x: usize, y: usiz
         },
         ink: color::values_at(setup.inks, 3 * k),
     };
-    let start = Choice {
+    let start = Best {
         cost: -1e-9,
-        pick: MAX_INKS + 8,
+        mv: Move::Stay,
     };
     let toggled = pixel.best_toggle(tab.centre, start);
     let around = Around {
@@ -236,5 +212,5 @@ pub fn evaluate(cpe: &[f64], indices: &[Index], s: Tabled<'_>, x: usize, y: usiz
         spot: places::spot_of(t, w, x, y),
     };
     let places = around.places();
-    Best::from(pixel.best_swap(cpe, indices, tab, &places, toggled))
+    pixel.best_swap(cpe, indices, tab, &places, toggled)
 }

@@ -4,7 +4,7 @@
 
 ghost use Rattle.std.specs.Prelude.{◌≡◌, ◌+◌, ◌*◌, ◌<◌, ◌≤◌, length};
 ghost use Rattle.base.specs.Grid.{area};
-ghost use Rattle.base.specs.Limits.{max_side, max_radius};
+ghost use Rattle.base.specs.Limits.{max_side, max_radius, cpp_chroma};
 ghost use Rattle.cpp.specs.Kernel.{KernelFits, lum_kernel, chroma_kernel};
 ghost use Rattle.sweep.specs.Sweep.{Centred, first, past, footprint_of, kernel_for, sweep_of, add_kernels};
 ghost use Rattle.sweep.specs.Part.{Part, RowSpan, part_of};
@@ -23,14 +23,21 @@ pub struct Source {
     pub a: YyCxCz,
 }
 
-// A kernel of the store with the channels that it is for, cut at a window of the image.
+// A kernel cut at a window of the image.
+#[derive(Clone, Copy)]
+pub struct Cut {
+    pub kernel: Kernel2D,
+    pub window: Rect,
+}
+
+// A kernel of the store, cut, with the channels that it is for.
+// Kept: no `Stored`, which is a store with a kernel: the kernel stands in the cut, which asks for no store, and would stand here twice.
 #[derive(Clone, Copy)]
 pub struct Brush<'a> {
     pub cpp: &'a [f64],
-    pub kernel: Kernel2D,
+    pub cut: Cut,
     pub channels: Channels,
-    pub window: Rect,
-    pub ghost fits: { KernelFits kernel cpp.now },
+    pub ghost fits: { KernelFits cut.kernel cpp.now },
 }
 
 // The kernel's first column or row inside the window.
@@ -48,29 +55,11 @@ fn past_in(m: usize, r: usize, b: usize) -> usize
     b.min(m + r + 1)
 }
 
-impl<'a> Brush<'a> {
-    // The kernel for these channels, cut at the window w.
-    #[inline(always)]
-    pub fn new(cpp: &'a [f64], t: Tiling, channels: Channels, w: Rect) -> Brush<'a>
-        requires { KernelFits (kernel_for channels t) cpp.now }
-        ensures { (result.cpp.now ≡ cpp.now) × (result.kernel ≡ kernel_for channels t) × (result.channels ≡ channels) × (result.window ≡ w) }
-    {
-        let kernel = match channels {
-            Channels::Luminance => cpp::lum_kernel(t),
-            Channels::Chrominance => cpp::chroma_kernel(t),
-        };
-        Brush {
-            cpp,
-            kernel,
-            channels,
-            window: w,
-        }
-    }
-
+impl Cut {
     // The kernel's footprint round m, cut at the window.
     pub fn footprint(self, m: Source) -> Rect
-        requires { (m.x ≤ max_side) × (m.y ≤ max_side) }
-        ensures { result ≡ footprint_of self.entry.kernel self.entry.window m.x m.y }
+        requires { (self.kernel.radius ≤ max_radius) × (m.x ≤ max_side) × (m.y ≤ max_side) }
+        ensures { result ≡ footprint_of self.kernel self.window m.x m.y }
     {
         let r = self.kernel.radius;
         Rect {
@@ -83,9 +72,10 @@ impl<'a> Brush<'a> {
 
     // Row y of the part c: where it stands, and what it grows by.
     pub fn part_at(self, m: Source, c: Rect, y: usize) -> Span
+        requires radius_le_max_radius { (self.kernel.radius ≤ max_radius) × (self.kernel.from ≤ cpp_chroma) }
         requires part { Part self.kernel self.window m c }
         requires y0_le_y { (c.y0 ≤ y) × (y < c.y1) }
-        ensures { RowSpan self.entry.kernel self.entry.window m c y result }
+        ensures { RowSpan self.kernel self.window m c y result }
     {
         Span {
             a: m.a,
@@ -97,17 +87,36 @@ impl<'a> Brush<'a> {
             ),
         }
     }
+}
+
+impl<'a> Brush<'a> {
+    // The kernel for these channels, cut at the window w.
+    #[inline(always)]
+    pub fn new(cpp: &'a [f64], t: Tiling, channels: Channels, w: Rect) -> Brush<'a>
+        requires { KernelFits (kernel_for channels t) cpp.now }
+        ensures { (result.cpp.now ≡ cpp.now) × (result.cut.kernel ≡ kernel_for channels t) × (result.cut.window ≡ w) × (result.channels ≡ channels) }
+    {
+        let kernel = match channels {
+            Channels::Luminance => cpp::lum_kernel(t),
+            Channels::Chrominance => cpp::chroma_kernel(t),
+        };
+        Brush {
+            cpp,
+            cut: Cut { kernel, window: w },
+            channels,
+        }
+    }
 
     // The part c, row by row.
     #[tactic(auto, using(base::proofs::LoopLaws::from_to_none, base::proofs::LoopLaws::from_to_more, crate::proofs::Laws::span_is), unfolding(crate::specs::Part::part_of))]
     #[inline(always)]
     pub fn sweep_rows(self, cpe: &mut [f64], m: Source, c: Rect)
-        requires cpe_len { length cpe.old ≡ 3 * area self.window }
-        requires part { Part self.kernel self.window m c }
-        ensures { cpe.new ≡ part_of self.entry.channels self.entry.cpp.now self.entry.kernel self.entry.window m c cpe.old }
+        requires cpe_len { length cpe.old ≡ 3 * area self.cut.window }
+        requires part { Part self.cut.kernel self.cut.window m c }
+        ensures { cpe.new ≡ part_of self.entry.channels self.entry.cpp.now self.entry.cut.kernel self.entry.cut.window m c cpe.old }
     {
         for y in c.y0..c.y1 {
-            spans::add_span(cpe, self.cpp, self.channels, self.part_at(m, c, y));
+            spans::add_span(cpe, self.cpp, self.channels, self.cut.part_at(m, c, y));
         }
     }
 
@@ -115,11 +124,11 @@ impl<'a> Brush<'a> {
     #[tactic(auto, using(crate::proofs::Laws::whole_part, crate::proofs::Laws::whole_is))]
     #[inline(always)]
     fn sweep(self, cpe: &mut [f64], m: Source)
-        requires centred { Centred self.window m.x m.y }
-        requires cpe_len { length cpe.old ≡ 3 * area self.window }
-        ensures { cpe.new ≡ sweep_of self.entry.channels m.a self.entry.cpp.now self.entry.kernel self.entry.window m.x m.y cpe.old }
+        requires centred { Centred self.cut.window m.x m.y }
+        requires cpe_len { length cpe.old ≡ 3 * area self.cut.window }
+        ensures { cpe.new ≡ sweep_of self.entry.channels m.a self.entry.cpp.now self.entry.cut.kernel self.entry.cut.window m.x m.y cpe.old }
     {
-        self.sweep_rows(cpe, m, self.footprint(m));
+        self.sweep_rows(cpe, m, self.cut.footprint(m));
     }
 }
 

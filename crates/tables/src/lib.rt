@@ -2,10 +2,11 @@
 // the steps to a pixel's neighbours. Nothing here reads the image.
 #![tactic(auto)]
 
-ghost use Rattle.std.specs.Prelude.{◌≡◌, ◌<◌, ◌≤◌, length};
+ghost use Rattle.std.specs.Prelude.{◌≡◌, ◌<◌, ◌≤◌, length, Float};
 ghost use Rattle.base.specs.Limits.{max_side, cpp_length};
 ghost use Rattle.base.specs.Loop.{table};
 ghost use Rattle.tiling.specs.Tiling.{Limits};
+ghost use Rattle.cpp.specs.declared.Kernel2D.{Kernel2D};
 ghost use Rattle.cost.specs.Cost.{beside_of, both, centres, gaps};
 ghost use Rattle.tables.specs.Tables.{step_of, step_both, tables_of, TablesFit};
 
@@ -57,24 +58,31 @@ struct Kernels<'a> {
 }
 
 impl<'a> Kernels<'a> {
+    // What f gives of each channel's kernel.
+    fn both<F: Fn(Stored<'a>) -> f64>(self, f: F) -> YyCxCz
+        requires { (k : _) → 1 ≤ k.kernel.radius → F.pre f k }
+        ensures { (g : Kernel2D → Float) → ((k : _) (r : Float) → k.cpp.now ≡ self.entry.cpp.now → F.post f k r → r ≡ g k.kernel) → result ≡ both g self.entry.tiling }
+    {
+        let lum = f(Stored {
+            cpp: self.cpp,
+            kernel: cpp::lum_kernel(self.tiling),
+        });
+        let chroma = f(Stored {
+            cpp: self.cpp,
+            kernel: cpp::chroma_kernel(self.tiling),
+        });
+        YyCxCz {
+            yy: lum,
+            cx: chroma,
+            cz: chroma,
+        }
+    }
+
     // `cpp0`: each channel's kernel at its centre.
-    #[tactic(auto, unfolding(cost::specs::Cost::centres, cost::specs::Cost::centre_of))]
     fn centres(self) -> YyCxCz
         ensures { result ≡ centres self.entry.cpp.now self.entry.tiling }
     {
-        let lum = Stored {
-            cpp: self.cpp,
-            kernel: cpp::lum_kernel(self.tiling),
-        };
-        let chroma = Stored {
-            cpp: self.cpp,
-            kernel: cpp::chroma_kernel(self.tiling),
-        };
-        YyCxCz {
-            yy: lum.centre(),
-            cx: chroma.centre(),
-            cz: chroma.centre(),
-        }
+        self.both(|k| k.centre())
     }
 
     // Each channel's kernel next to its centre.
@@ -82,20 +90,7 @@ impl<'a> Kernels<'a> {
         requires { code < 8 }
         ensures { result ≡ both (λ k. beside_of self.entry.cpp.now k code) self.entry.tiling }
     {
-        let lum = Stored {
-            cpp: self.cpp,
-            kernel: cpp::lum_kernel(self.tiling),
-        };
-        let chroma = Stored {
-            cpp: self.cpp,
-            kernel: cpp::chroma_kernel(self.tiling),
-        };
-        let (lum, chroma) = (beside(lum, code), beside(chroma, code));
-        YyCxCz {
-            yy: lum,
-            cx: chroma,
-            cz: chroma,
-        }
+        self.both(|k| beside(k, code))
     }
 
     // The kernels at their centres less next to them, by code.

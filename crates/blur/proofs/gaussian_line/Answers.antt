@@ -18,7 +18,7 @@ int_to_float-d c = le→leb c.loop-i.i (2 ^ 53) (omega arith)
 
 pub int_to_float-d-in-loop-i : goal.int_to_float-d-in-loop-i
 unfolding in_float
-int_to_float-d-in-loop-i c = le→leb c.args.r (2 ^ 53) (omega arith)
+int_to_float-d-in-loop-i c = le→leb c.radius-r.result (2 ^ 53) (omega arith)
 
 pub loop-i-preserved : goal.loop-i-preserved
 unfolding gaussian_at
@@ -26,4 +26,4 @@ loop-i-preserved c = (search rules, search rules, rw length-set (search rules), 
 
 pub returns : goal.returns
 unfolding gaussian_line
-returns c = fill_done _ (kernel_side c.args.r) _ _ _ c.loop-i.invariant.0 (omega arith) (omega arith) c.loop-i.invariant.3
+returns c = rw (← c.radius-r.ensures.value) (fill_done _ (kernel_side c.radius-r.result) _ _ _ c.loop-i.invariant.0 (omega arith) (omega arith) c.loop-i.invariant.3)

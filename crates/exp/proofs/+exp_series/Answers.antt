@@ -22,4 +22,4 @@ pub returns-then-k-gt10 : goal.returns-then-k-gt10
 returns-then-k-gt10 t c = none c.args.y c.args.k c.if-k-gt10.true
 
 pub returns-else-k-gt10 : goal.returns-else-k-gt10
-returns-else-k-gt10 t c = rw c.exp_series.ensures (more c.args.y c.args.k c.if-k-gt10.false)
+returns-else-k-gt10 t c = rw (c.from.ensures, c.exp_series.ensures) (more c.args.y c.args.k c.if-k-gt10.false)

@@ -8,15 +8,15 @@ use Rattle.base.specs.Limits.{max_inks}
 use Rattle.base.specs.F64.{f64}
 use Rattle.search.specs.Shared.{shared_of}
 use Rattle.search.specs.Search.{no_move}
-use Rattle.search.specs.Fast.{best_of, move_of}
+use Rattle.search.specs.declared.Move.TheVariants.{Stay}
 use Rattle.places.proofs.Window.{held_inside}
 use Rattle.search.proofs.Window.{ready_limits, ready_index}
 use Rattle.search.proofs.FastLaws.{findable, all_fit, evaluated}
 use Rattle.search.proofs.evaluate.Goals.{After-index_at-k}
 use Rattle.search.proofs.evaluate.Goals as goal
 
-start_is : best_of (record { cost = neg (f64 0x3e112e0be826d695); pick = max_inks + 8 }) ≡ no_move
-unfolding best_of move_of of_bits round
+start_is : record { cost = neg (f64 0x3e112e0be826d695); mv = Stay } ≡ no_move
+unfolding of_bits round
 start_is = refl
 
 -- the pixel's ink is one of the inks
@@ -46,12 +46,10 @@ best_swap-requires c =
     all_fit c.requires.ready c.args.x c.args.y c.requires.held _ (rw (p.0, p.1) at c.places-places.ensures)
 
 pub returns : goal.returns
-unfolding best_of
 returns c =
     let a = c.args in
     let p = c.spot_of.ensures in
-    rw c.from.ensures
-    (evaluated
+    evaluated
     (shared_of a.s.setup)
     a.s.tab.w
     a.cpe.now
@@ -62,13 +60,13 @@ returns c =
     c.cpe_at.result
     a.s.tab
     _
-    (best_of (record { cost = neg (f64 0x3e112e0be826d695); pick = max_inks + 8 }))
-    (best_of c.best_toggle-toggled.result)
-    (best_of c.best_swap.result)
+    (record { cost = neg (f64 0x3e112e0be826d695); mv = Stay })
+    c.best_toggle-toggled.result
+    c.best_swap.result
     start_is
     a.s.made
     (rw (p.0, p.1) at c.places-places.ensures)
     c.index_at-k.ensures
     c.cpe_at.ensures
     c.best_toggle-toggled.ensures
-    c.best_swap.ensures)
+    c.best_swap.ensures

@@ -14,7 +14,9 @@ loop-i-init c = λ ch. let z = c.default-s.ensures in channel_same c.default-s.r
 
 pub loop-i-preserved : goal.loop-i-preserved
 unfolding error_term
-loop-i-preserved c = λ ch. rw (up_to_more, ← c.loop-i.invariant ch, ← c.error_at-e.ensures, ← c.values_at.ensures) (c.add_products-s.ensures ch)
+loop-i-preserved c = λ ch.
+    let e = rw (c.view-view.ensures.width, c.view-view.ensures.image) at c.error_at-e.ensures in
+    rw (up_to_more, ← c.loop-i.invariant ch, ← e, ← c.values_at.ensures) (c.add_products-s.ensures ch)
 
 pub returns : goal.returns
 unfolding initial_error channel_error channel

@@ -5,4 +5,4 @@ use Rattle.sweep.specs.Part.{row_of}
 use Rattle.sweep.proofs.Brush.sweep_rows.Given as goal
 
 abbrev pub invariant-loop-y : goal.invariant-loop-y
-invariant-loop-y l = l.cpe ≡ from_to l.c.y0 l.y (row_of l.self.channels l.self.cpp.now l.self.kernel l.self.window l.m l.c) l.initial.cpe
+invariant-loop-y l = l.cpe ≡ from_to l.c.y0 l.y (row_of l.self.channels l.self.cpp.now l.self.cut.kernel l.self.cut.window l.m l.c) l.initial.cpe

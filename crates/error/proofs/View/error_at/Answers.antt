@@ -1,7 +1,7 @@
--- `Scene::error_at` meets its contract: the target is one of the definition's two. Assumes nothing.
+-- `View::error_at` meets its contract: the target is one of the definition's two. Assumes nothing.
 use mathlib.Core.Path.{sym, ◌∙◌}
 use Rattle.error.specs.Error.{halftone_at, colour_at, target_at, error_at}
-use Rattle.error.proofs.Scene.error_at.Goals as goal
+use Rattle.error.proofs.View.error_at.Goals as goal
 
 pub returns-then-is_pinned : goal.returns-then-is_pinned
 unfolding error_at target_at halftone_at
