@@ -10,6 +10,7 @@ use base::{Index, Refusal, Status};
 use eye::DbsParams;
 use input::Input;
 use search::Setup;
+use sizes::Accepted;
 use tiling::Tiling;
 
 // Diagnostics of a run.
@@ -24,7 +25,7 @@ pub struct Stats {
 }
 
 // The same, or a refusal with zeros.
-// Kept: C reads number and place here, so that it is no `Result`.
+// Kept: C reads number and place here by their names, so that it is no `Result` and holds no `Status`.
 #[repr(C)]
 #[derive(Clone, Copy, Default)]
 pub struct DbsStats {
@@ -59,6 +60,8 @@ impl From<Result<Stats, Refusal>> for DbsStats {
 }
 
 // An accepted input, with as many counts as passes are allowed.
+// Kept: the fields of an `Input` apart: an `Input` lends the halftone read only, which the walk writes here, and a type for the others would
+// serve this call and `refine` alone.
 pub fn refine_accepted(
     pixels: &[u8],
     palette: &[u8],
@@ -83,7 +86,8 @@ pub fn refine_accepted(
         pinned,
         params,
     };
-    let error = prepare::prepare(given, t, inks, cpp, cpe);
+    let a = Accepted { given, tiling: t };
+    let error = prepare::prepare(a, inks, cpp, cpe);
     let setup = Setup {
         tiling: t,
         pinned,

@@ -81,6 +81,9 @@ pub goes_on : (xs ys : List Test) → Numbered xs → accepted ≡ judge xs → 
 goes_on xs ys n e = sym (judge_append xs ys n ∙ rw (← e))
 
 -- where one has refused, it is the judgement
+pub stays_at : (xs ys : List Test) → Numbered xs → {s : Status} → s ≡ judge xs → (s.number ≡ 0 → ⊥) → s ≡ judge (xs ++ ys)
+stays_at xs ys n {s} e h = sym (judge_append xs ys n ∙ rw (← e, ne_eqb s.number 0 h))
+
 pub ends_at : (r : Refusal) (xs ys : List Test) → Numbered xs → number_and_place r ≡ judge xs → number_and_place r ≡ judge (xs ++ ys)
 ends_at r xs ys n e = sym (judge_append xs ys n ∙ rw (← e, ne_eqb (number_and_place r).number 0 (positive_ne (number_and_place r).number (refusal_number r))))
 

@@ -35,6 +35,7 @@ impl Rect {
     }
 
     // Its pixels.
+    #[tactic(auto, using(crate::proofs::Bounds::image_product), unfolding(crate::specs::Grid::area, crate::specs::Grid::width, crate::specs::Grid::height))]
     pub fn area(self) -> usize
         requires columns { (self.x0 ≤ self.x1) × (self.x1 ≤ max_side) }
         requires lines { (self.y0 ≤ self.y1) × (self.y1 ≤ max_side) }
@@ -77,10 +78,10 @@ impl fmt::Display for Status {
     }
 }
 
-// The buffers lent to a call whose lengths are tested, in the order of their numbers, from 1 on.
+// The buffers lent to a call whose lengths are tested, with their numbers, from 1 on.
 #[derive(Clone, Copy, PartialEq, Eq)]
 pub enum Buffer {
-    Cpe,
+    Cpe = 1,
     Cpp,
     AcceptedPerPass,
     TileStates,
@@ -145,16 +146,7 @@ impl From<Buffer> for u64 {
     ghost from_gives = { λ b n. n ≡ number_of b };
 
     fn from(b: Buffer) -> u64 {
-        match b {
-            Buffer::Cpe => 1,
-            Buffer::Cpp => 2,
-            Buffer::AcceptedPerPass => 3,
-            Buffer::TileStates => 4,
-            Buffer::Deltas => 5,
-            Buffer::CopyCpe => 6,
-            Buffer::CopyIndices => 7,
-            Buffer::Inks => 8,
-        }
+        b as u64
     }
 }
 
@@ -181,6 +173,8 @@ pub fn refuse_if(fails: bool, refusal: Refusal) -> Result<(), Refusal>
 }
 
 // Where the values of pixel (x, y) begin in the list of w, k values a pixel; x may be one past a row's end.
+// Kept: the limit of the sides in a clause, as in `area`: a type of rectangles within it would be made of a `Rect` at each call, and the
+// other clauses would stay: no plainer.
 pub fn place(k: usize, w: Rect, x: usize, y: usize) -> usize
     requires k_bound { k ≤ 3 }
     requires x0_le_x { (w.x0 ≤ x) × (x ≤ w.x1) }

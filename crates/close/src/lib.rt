@@ -10,9 +10,10 @@ ghost use Rattle.job.specs.Close.{closed, close_of};
 
 use base::Refusal;
 use job::JobRecord;
-use tiling::Tiles;
 
 // Join the phase's deltas to the error and go on to the next phase.
+// Kept: the lent buffers apart, as the host has them: a struct of them would be made at each call, and its contract say of each `&mut`
+// that it still is the host's (`ghost_name`).
 fn close(
     r: JobRecord,
     accepted_per_pass: &mut [u32],
@@ -21,14 +22,9 @@ fn close(
 ) -> Result<JobRecord, Refusal>
     ensures { closed (status_of result) (result_unwrap_or result r) accepted_per_pass.new tile_states.new ≡ close_of r accepted_per_pass.old tile_states.old deltas.now }
 {
-    closetests::check_close(r, accepted_per_pass, tile_states, deltas)?;
-    let plan = r.plan;
-    let t = Tiles {
-        tiling: plan.tiling,
-    };
-    let phase = r.phase as usize;
-    let error = nextphase::add_deltas(t, phase, deltas, r.error);
-    nextphase::release(t, phase, tile_states);
+    let job = closetests::check_close(r, accepted_per_pass, tile_states, deltas)?;
+    let error = nextphase::add_deltas(job, deltas);
+    nextphase::release(job, tile_states);
     nextphase::store_count(r, accepted_per_pass);
     Ok(nextphase::next_record(r, error))
 }

@@ -1,10 +1,12 @@
 -- Where the values of an ink stand: three to an ink, so that of a place the quotient by 3 is the ink and the rest the channel. Assumes nothing.
-use Prim.Native.Nat.{ℕ, ◌+◌, ◌*◌, ◌/◌, ◌%◌, ◌<◌}
+use Prim.Native.Nat.{ℕ, zero, suc, ◌+◌, ◌*◌, ◌/◌, ◌%◌, ◌<◌}
 use native.Mathlib.Omega.{arith}
 use mathlib.Core.Path.{◌≡◌, sym, ap, ◌∙◌}
-use mathlib.Core.List.{List}
-use lib.ListN.{length, get_or, set}
+use mathlib.Core.List.{List, []}
+use lib.ListN.{length, get_or, set, drop}
+use lib.Seq.{get_or-take, get_or-drop}
 use lib.Ieee.{Float}
+use Rattle.std.specs.Simd.{first_chunks}
 use Rattle.base.proofs.TableLaws.{length-table, get_d_table, filled, fill_turn}
 use Rattle.color.specs.declared.YyCxCz.{YyCxCz}
 use Rattle.color.specs.Inks.{channel, ink, ink_value, ink_values}
@@ -40,3 +42,11 @@ fill_three d i f s g a b c h e p q r =
     let first = fill_turn d i f s g a (omega arith) e (rw z at p) in
     let second = fill_turn d (i + 1) f s _ b (omega arith) first q in
     rw three at (fill_turn d (i + 2) f s _ c h (rw two at second) r)
+
+-- a byte of ink i, read from the palette's inks
+pub chunk_byte : (palette : List ℕ) (n i c : ℕ) → i < n → c < 3 → get_or (get_or (first_chunks 3 n palette) i []) c 0 ≡ get_or palette (3 * i + c) 0
+chunk_byte palette zero i c h b = absurd (omega (arith, h))
+chunk_byte palette (suc n) zero c h b = let e : 3 * 0 + c ≡ c = omega arith in rw e (get_or-take 3 palette c 0 b)
+chunk_byte palette (suc n) (suc i) c h b =
+    let e : 3 + (3 * i + c) ≡ 3 * suc i + c = omega arith in
+    chunk_byte (drop 3 palette) n i c (omega (arith, h)) b ∙ get_or-drop 3 palette (3 * i + c) 0 ∙ ap (λ (j : ℕ). get_or palette j 0) e

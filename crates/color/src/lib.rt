@@ -121,14 +121,13 @@ pub fn palette_to_inks(palette: &[u8], inks: &mut [f64])
     requires inks_len { length inks.old ≡ length palette.now }
     ensures { inks.new ≡ ink_values palette.now }
 {
-    // Kept: tried by `chunks_exact_mut(3)` and `zip`, and the proof did not close, since the library says nothing of what is
-    // written through a chunk.
-    for k in 0..palette.len() / 3 {
-        let i = 3 * k;
-        let ink = srgb_to_yycxcz(palette[i], palette[i + 1], palette[i + 2]);
-        inks[i] = ink.yy;
-        inks[i + 1] = ink.cx;
-        inks[i + 2] = ink.cz;
+    // Kept: written by places: tried by `chunks_exact_mut(3)` and `zip`, and the proof did not close, since the library says nothing of
+    // what is written through a chunk.
+    for (k, [r, g, b]) in palette.as_chunks::<3>().0.iter().enumerate() {
+        let ink = srgb_to_yycxcz(*r, *g, *b);
+        inks[3 * k] = ink.yy;
+        inks[3 * k + 1] = ink.cx;
+        inks[3 * k + 2] = ink.cz;
     }
 }
 

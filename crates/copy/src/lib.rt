@@ -11,7 +11,8 @@ ghost use Rattle.copy.specs.Part.{Holds};
 use base::{Index, Rect, place};
 
 // A row of one list over a row of another.
-// Kept: by `copy_from_slice` the library asks the host for `memmove` too, and its C interface is `memcpy` and `memset`.
+// Kept: by `copy_from_slice` the rows of lent slices are copied by a call of `memmove`, which the host would have to have beside the
+// `memcpy` and `memset` that the C interface asks for; elsewhere in the library it becomes one of these.
 fn copy_row<T: Copy>(from: &[T], to: &mut [T])
     requires { length from.now ≡ length to.old }
     ensures { to.new ≡ from.now }

@@ -19,8 +19,9 @@ pub struct Kernel2D {
 
 impl Kernel2D {
     // Its columns, and its rows.
-    // Kept: the sum that `kernel_side` of blur is: neither crate knows the other, and one function in base, which has nothing of kernels,
-    // would be no plainer.
+    // Kept: `kernel_side` of blur is this sum: for `2 * radius + 1` this crate would name `blur`, and with it the eye model, and be no plainer.
+    // Kept: the radius's limit in a clause, here, in `place` and in sweep: `lum_kernel` and `chroma_kernel`, which take any tiling, would ask
+    // for it where they make a kernel.
     pub fn size(self) -> usize
         requires { self.radius ≤ max_radius }
         ensures { result ≡ size self }

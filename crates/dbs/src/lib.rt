@@ -1,5 +1,6 @@
 // The calls of the library, as Rattle crates make them; dbs_c exports them to C. Each function hands on to the crate of its
 // call, whose contract it has.
+// Kept: images, palettes, masks and buffers as parameters of their own, as the C interface has them.
 #![tactic(auto)]
 
 ghost use Rattle.std.specs.Prelude.{[], ◌≡◌};

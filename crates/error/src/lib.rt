@@ -120,6 +120,7 @@ impl<'a> Scene<'a> {
     {
         let mut s = YyCxCz::default();
         let view = self.view();
+        // Kept: pixels by number, which gives column, row and the place in `cpe`.
         for i in 0..self.height * self.width {
             let e = view.error_at(i % self.width, i / self.width);
             s = add_products(s, e, color::values_at(cpe, 3 * i));

@@ -3,9 +3,7 @@
 // checksum of all kernel values, or the number and the place of the refusal.
 #![tactic(auto)]
 
-ghost use Rattle.std.specs.Prelude.{◌≡◌};
-ghost use Rattle.base.specs.Refusal.{judge, accepted};
-ghost use Rattle.eye.specs.Eye.{eye_tests, KernelRadius};
+ghost use Rattle.eye.specs.Eye.{KernelRadius};
 
 use base::{CPP_CHROMA, CPP_LEN, Status};
 use checksum::Checksum;
@@ -79,12 +77,10 @@ const EYES: [(u64, u64); 63] = [
     (0x7fefffffffffffff, 0x7fefffffffffffff),
 ];
 
-// Computes both kernels of an accepted eye into cpp and gives their checksum.
-fn kernels(params: DbsParams, eye: Eye, cpp: &mut [f64; CPP_LEN]) -> Checksum
-    requires params_value { judge (eye_tests params) ≡ accepted }
-    requires kernel_radius { KernelRadius eye.lum_radius × KernelRadius eye.chroma_radius }
+// The checksum of both kernels of an eye.
+fn kernels(eye: Eye, cpp: &[f64; CPP_LEN]) -> Checksum
+    requires { KernelRadius eye.lum_radius × KernelRadius eye.chroma_radius }
 {
-    kernel::eye_kernels(params, cpp);
     let lum_end = blur::value_count(eye.lum_radius);
     let chroma_end = CPP_CHROMA + blur::value_count(eye.chroma_radius);
     Checksum::of(&cpp[..lum_end]).with(&cpp[CPP_CHROMA..chroma_end])
@@ -98,7 +94,8 @@ fn answer(rt: &impl Print, params: DbsParams, cpp: &mut [f64; CPP_LEN]) -> io::R
             return println!(rt; " {}", Status::from(refusal));
         }
     };
-    let sum = kernels(params, eye, cpp);
+    kernel::eye_kernels(params, cpp);
+    let sum = kernels(eye, cpp);
     println!(rt; " {} {} {sum}", eye.lum_radius, eye.chroma_radius)
 }
 

@@ -49,6 +49,8 @@ fn channel_block(t: Tiling, c: Channel, radius: usize) -> Block
 }
 
 // A channel of `correlate`, added to its lines.
+// Kept: the length of `cpe` in a clause: a struct with it as a ghost field would be lent as `&mut`, and each contract would say instead
+// that it still has the same list and tiling.
 fn correlate_channel(
     scene: Scene<'_>,
     cpp: &[f64],
@@ -67,6 +69,7 @@ fn correlate_channel(
 }
 
 // The initial `cpe`, three values a pixel: document 01's field.
+// Kept: the length of `cpe` in a clause, as in `correlate_channel`; so in error and regions.
 pub fn initial_field(scene: Scene<'_>, cpp: &[f64], t: Tiling, cpe: &mut [f64])
     requires field_fits { FieldFits t scene.width scene.height (length cpp.now) }
     requires cpe_len { length cpe.old ≡ 3 * (t.height * t.width) }

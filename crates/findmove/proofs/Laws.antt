@@ -19,8 +19,8 @@ use Rattle.input.specs.Rows.{find_rows}
 use Rattle.input.proofs.Validity.{find_numbered, find_passes}
 use Rattle.input.proofs.RowsOf.{find_rows_lem}
 use Rattle.search.specs.Shared.{shared}
-use Rattle.prepare.specs.Prepare.{ReadyToPrepare, Built, tiling_of, shared_of}
-use Rattle.prepare.proofs.Laws.{ready_to_prepare, built_inks}
+use Rattle.prepare.specs.Prepare.{RoomFor, Built, tiling_of, shared_of}
+use Rattle.prepare.proofs.Laws.{built_inks}
 use Rattle.firstmove.specs.declared.FirstMove.{FirstMove}
 use Rattle.firstmove.specs.FirstMove.{first_in_pass}
 use Rattle.found.specs.Found.{refused_of, searched_of}
@@ -56,13 +56,13 @@ module _ (I : Input) (cpe cpp inks : List Float) where
   pub refused_is : (r : Refusal) → number_and_place r ≡ verdict → refused (number_and_place r) cpe cpp inks ≡ find_of I cpe cpp inks
   refused_is r e = ap (λ s. refused s cpe cpp inks) e ∙ sym (find_answers.keeps (refuses r _ e))
 
-  -- the tests passed, and the tiling that was found
-  module _ (T : Tiling) (ok : accepted ≡ verdict) (q : T ≡ tiling_of I) where
+  -- the tests passed
+  module _ (ok : accepted ≡ verdict) where
     valid : ValidFind I (length cpe) (length cpp) (length inks)
     valid = find_judged.accepts.0 (find_answers.told ∙ sym ok)
 
-    pub ready : ReadyToPrepare I T (length inks) (length cpp) (length cpe)
-    ready = ready_to_prepare I T (length cpe) (length cpp) (length inks) q valid.valid valid.cpe_length valid.cpp_len valid.inks_length
+    pub room : RoomFor I (length inks) (length cpp) (length cpe)
+    room = record { inks_length = valid.inks_length; cpp_len = valid.cpp_len; cpe_length = valid.cpe_length }
 
     pub searched_is : (f : Option FirstMove) (cpe' cpp' inks' : List Float) → search f cpe' cpp' inks' ≡ search_accepted I cpp →
         finding (searched_of f) cpe' cpp' inks' ≡ find_of I cpe cpp inks

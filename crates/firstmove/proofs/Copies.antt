@@ -104,9 +104,6 @@ module _ (S : Shared) (cpe : List Float) (indices : List ℕ) where
 
   -- a window and its copy, by their values
   module _ (n : ℕ) (Q W : Rect) (e : W ≡ around S.tiling Q) (p : Part S.tiling Q) (r : Ready S (image S.tiling) n indices) where
-    pub holds_as : Holds (image S.tiling) W × Holds W W
-    holds_as = rw e (around_holds S.tiling Q p r.limits, around_whole S.tiling Q p r.limits)
-
     module _ (values : List Float) (inks : List ℕ) (v : values ≡ crop nan 3 (image S.tiling) W cpe) (i : inks ≡ crop 0 1 (image S.tiling) W indices) where
       pub ready_as : Ready S W (length values) inks × Covers S.tiling W Q
       ready_as = rw (v, i, e) (ready_copy n Q p r, around_covers S.tiling Q p)

@@ -14,7 +14,7 @@ use Rattle.tiling.specs.declared.Tiling.{Tiling}
 use Rattle.tiling.specs.Tiling.{image, tile, tiles, in_phase}
 use Rattle.search.specs.Shared.{Shared, Held}
 use Rattle.firstmove.specs.declared.FirstMove.{FirstMove}
-use Rattle.firstmove.specs.FirstMove.{move_at, or_else, first_in_row, first_in_tile, first_try, first_in_phase, first_in_pass}
+use Rattle.firstmove.specs.FirstMove.{move_at, or_else, first_in_row, first_in_tile, first_try, first_in_phase}
 
 pub nothing : (f : Option FirstMove) → is_some f ≡ false → f ≡ None
 nothing None e = refl
@@ -145,16 +145,6 @@ module _ (S : Shared) (cpe : List Float) (indices : List ℕ) where
       first_try S cpe indices phase t None ≡ s → is_some s ≡ true → first_in_phase S cpe indices phase None ≡ s
   unfolding first_in_phase
   phase_left phase t s l none here m = up_to_left (first_try S cpe indices phase) (try_keeps phase) (tiles S.tiling) t s l none here m
-
-  -- and a pass
-  pub pass_none : (phase : ℕ) → phase ≡ 4 → up_to (first_in_phase S cpe indices) phase None ≡ None → first_in_pass S cpe indices ≡ None
-  unfolding first_in_pass
-  pass_none phase e none = rw e at none
-
-  pub pass_left : (phase : ℕ) (s : Option FirstMove) → phase < 4 → up_to (first_in_phase S cpe indices) phase None ≡ None → s ≡ first_in_phase S cpe indices phase None → is_some s ≡ true →
-      first_in_pass S cpe indices ≡ s
-  unfolding first_in_pass
-  pass_left phase s l none here m = up_to_left (first_in_phase S cpe indices) phase_keeps 4 phase s l none (sym here) m
 
 -- ---- a pixel of the image
 

@@ -1,4 +1,5 @@
 pub mod Laws
+pub mod FirstFound
 pub mod Walks
 pub mod ZeroPlus
 pub mod Copies

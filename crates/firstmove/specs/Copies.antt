@@ -1,7 +1,7 @@
 -- A SHAPE FOR SPEED: nothing that a reader has to believe.
 -- The search looks at pixels by the walk over a tile, on a copy of them and of their neighbours. proofs/ has the law that this gives what FirstMove.antt
 -- defines; no contract of another crate's answer cites it.
-use Rattle.std.specs.Prelude.{◌≡◌, Bool, true, false, cond, Option, Some, List, [], ◌∷◌, ℕ, ◌+◌, ◌-◌, ◌≤◌, ◌<◌, eqb, Float}
+use Rattle.std.specs.Prelude.{Bool, true, false, cond, Option, Some, List, [], ◌∷◌, ℕ, ◌+◌, ◌-◌, ◌≤◌, eqb, Float}
 use Rattle.std.specs.Float.{nan}
 use Rattle.base.specs.declared.Rect.{Rect}
 use Rattle.base.specs.Grid.{crop, with_margin}
@@ -21,17 +21,11 @@ pub record Part (T : Tiling) (Q : Rect) : Type 0 where
   pub in_x : Q.x1 ≤ T.width
   pub in_y : Q.y1 ≤ T.height
 
--- a row of a tile, and a pixel
+-- a row of a tile, or a pixel
 pub record Row (T : Tiling) (Q : Rect) : Type 0 where
   pub part : Part T Q
   pub wide : Q.x1 - Q.x0 ≤ 67
   pub high : Q.y1 - Q.y0 ≤ 1
-
-pub record OnePixel (T : Tiling) (Q : Rect) : Type 0 where
-  pub in_x : Q.x0 < T.width
-  pub in_y : Q.y0 < T.height
-  pub x_end : Q.x1 ≡ Q.x0 + 1
-  pub y_end : Q.y1 ≡ Q.y0 + 1
 
 -- they and their neighbours
 unfoldable pub around : Tiling → Rect → Rect

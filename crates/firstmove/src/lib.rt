@@ -4,21 +4,18 @@
 // `search::evaluate`, which the compiler then makes a part of it.
 #![tactic(auto)]
 
-ghost use Rattle.std.specs.Prelude.{◌≡◌, not, None, ◌*◌, ◌≤◌, ◌<◌, eqb, length};
+ghost use Rattle.std.specs.Prelude.{◌≡◌, not, None, ◌<◌, eqb, length};
 ghost use Rattle.std.specs.Float.{nan};
-ghost use Rattle.base.specs.Limits.{max_side};
-ghost use Rattle.base.specs.Grid.{area, crop};
+ghost use Rattle.base.specs.Grid.{crop};
 ghost use Rattle.tiling.specs.Tiling.{image};
 ghost use Rattle.search.specs.Shared.{shared_of, Ready};
-ghost use Rattle.tile.specs.Tile.{state};
-ghost use Rattle.copy.specs.Part.{Holds};
-ghost use Rattle.firstmove.specs.Copies.{Part, Row, OnePixel, around as window, walked, count_of};
+ghost use Rattle.firstmove.specs.Copies.{Row, around, walked, count_of};
 ghost use Rattle.firstmove.specs.FirstMove.{kind_number, move_at, first_in_phase, first_in_pass};
 
 use base::{Index, Rect};
-use progress::Progress;
+use places::Pixel;
 use search::Setup;
-use tiling::{Tiles, Tiling};
+use tiling::Tiles;
 
 // The kinds of a move.
 #[derive(Clone, Copy)]
@@ -32,10 +29,7 @@ impl From<Kind> for u64 {
     ghost from_gives = { λ k n. n ≡ kind_number k };
 
     fn from(kind: Kind) -> u64 {
-        match kind {
-            Kind::Toggle => 0,
-            Kind::Swap => 1,
-        }
+        kind as u64
     }
 }
 
@@ -56,15 +50,21 @@ struct Image<'a> {
     ghost ready: { Ready (shared_of setup) (image setup.tiling) (length cpe.now) indices.now },
 }
 
-// Room for a copy: the pixels of a row of a tile, which is at most 67 wide, with those around it.
+// Room for the pixels of a row of a tile, which is at most 67 wide, with those around it.
 const ROOM: usize = 207;
 
-// The pixels q and their neighbours.
-fn around(t: Tiling, q: Rect) -> Rect
-    requires { (q.x1 ≤ max_side) × (q.y1 ≤ max_side) }
-    ensures { result ≡ window t q }
-{
-    q.with_margin(1, t.width, t.height)
+// Where a copy lies.
+#[derive(Drop)]
+struct Buffers {
+    cpe: [f64; 3 * ROOM],
+    indices: [Index; ROOM],
+}
+
+// A copy of the window w of the image.
+struct Copied<'c> {
+    w: Rect,
+    cpe: &'c mut [f64],
+    indices: &'c mut [Index],
 }
 
 // How many indices are k.
@@ -76,114 +76,75 @@ fn count_ink(indices: &[Index], k: usize) -> usize
 }
 
 impl<'a> Image<'a> {
-    // A copy of the window w.
-    // Kept: both lists of a copy go apart, as `refine_tile` takes them.
-    fn fill_copy(self, w: Rect, copy_cpe: &mut [f64], copy_indices: &mut [Index])
-        requires holds { Holds (image self.setup.tiling) w × Holds w w }
-        requires copy_cpe_len { (length copy_cpe.old ≡ 3 * area w) × (length copy_indices.old ≡ area w) }
-        ensures copy_cpe_after { copy_cpe.new ≡ crop nan 3 (image self.entry.setup.tiling) w self.entry.cpe.now }
-        ensures copy_indices_after { copy_indices.new ≡ crop 0 1 (image self.entry.setup.tiling) w self.entry.indices.now }
+    // A copy of the pixels q and their neighbours.
+    #[tactic(auto, using(crate::proofs::Rooms::room), unfolding(crate::specs::Copies::around, base::specs::Grid::area, base::specs::Grid::width, base::specs::Grid::height))]
+    fn copy_around<'c>(self, q: Rect, buffers: &'c mut Buffers) -> Copied<'c>
+        requires { Row self.setup.tiling q }
+        ensures window_is { result.w ≡ around self.entry.setup.tiling q }
+        ensures cpe_is { result.cpe.now ≡ crop nan 3 (image self.entry.setup.tiling) result.w self.entry.cpe.now }
+        ensures indices_are { result.indices.now ≡ crop 0 1 (image self.entry.setup.tiling) result.w self.entry.indices.now }
     {
-        let image = self.setup.tiling.image_rect();
-        copy::copy_out(self.cpe, self.indices, image, w, copy_cpe, copy_indices);
-    }
-
-    // The walk over the pixels q, on a copy of them and their neighbours.
-    fn walk_copy(
-        self,
-        w: Rect,
-        q: Rect,
-        copy_cpe: &mut [f64],
-        copy_indices: &mut [Index],
-    ) -> Progress
-        requires part { Part self.setup.tiling q × (w ≡ window self.setup.tiling q) }
-        requires copy_cpe_len { (length copy_cpe.old ≡ 3 * area w) × (length copy_indices.old ≡ area w) }
-        ensures { state copy_cpe.new copy_indices.new result ≡ walked (shared_of self.entry.setup) self.entry.cpe.now self.entry.indices.now q }
-    {
-        self.fill_copy(w, copy_cpe, copy_indices);
-        tile::refine_tile(copy_cpe, copy_indices, self.setup, w, q)
+        let t = self.setup.tiling;
+        let w = q.with_margin(1, t.width, t.height);
+        let n = w.area();
+        let Buffers { cpe, indices } = buffers;
+        let cpe = &mut cpe[..3 * n];
+        let indices = &mut indices[..n];
+        copy::copy_out(self.cpe, self.indices, t.image_rect(), w, cpe, indices);
+        Copied { w, cpe, indices }
     }
 
     // Whether the walk over the row q accepts a move.
-    fn row_moves(
-        self,
-        q: Rect,
-        copy_cpe: &mut [f64; 3 * ROOM],
-        copy_indices: &mut [Index; ROOM],
-    ) -> bool
+    fn row_moves(self, q: Rect, buffers: &mut Buffers) -> bool
         requires { Row self.setup.tiling q }
         ensures { result ≡ not (eqb (walked (shared_of self.entry.setup) self.entry.cpe.now self.entry.indices.now q).progress.accepted 0) }
     {
-        let w = around(self.setup.tiling, q);
-        let n = (w.y1 - w.y0) * (w.x1 - w.x0);
-        let p = self.walk_copy(w, q, &mut copy_cpe[..3 * n], &mut copy_indices[..n]);
-        p.accepted != 0
-    }
-
-    // The move of the pixel q, unless it is pinned or stays.
-    fn pixel_move(
-        self,
-        w: Rect,
-        q: Rect,
-        copy_cpe: &mut [f64],
-        copy_indices: &mut [Index],
-    ) -> Option<FirstMove>
-        requires one_pixel { OnePixel self.setup.tiling q × (w ≡ window self.setup.tiling q) }
-        requires copy_cpe_len { (length copy_cpe.old ≡ 3 * area w) × (length copy_indices.old ≡ area w) }
-        ensures { result ≡ move_at (shared_of self.entry.setup) self.entry.cpe.now self.entry.indices.now q.x0 q.y0 }
-    {
-        let t = self.setup.tiling;
-        let k = search::index_at(self.indices, t.image_rect(), q.x0, q.y0);
-        self.fill_copy(w, copy_cpe, copy_indices);
-        let ink = count_ink(copy_indices, k);
-        let p = self.walk_copy(w, q, copy_cpe, copy_indices);
-        if p.accepted == 0 {
-            return None;
-        }
-        // A toggle takes a pixel of the ink away.
-        let kind = if count_ink(copy_indices, k) == ink {
-            Kind::Swap
-        } else {
-            Kind::Toggle
-        };
-        Some(FirstMove {
-            pixel: q.y0 * t.width + q.x0,
-            kind,
-            cost: p.delta,
-        })
+        let Copied { w, cpe, indices } = self.copy_around(q, buffers);
+        tile::refine_tile(cpe, indices, self.setup, w, q).accepted != 0
     }
 
     // The move of pixel (x, y), unless it is pinned or stays.
-    fn move_at(
-        self,
-        x: usize,
-        y: usize,
-        copy_cpe: &mut [f64; 3 * ROOM],
-        copy_indices: &mut [Index; ROOM],
-    ) -> Option<FirstMove>
+    fn move_at(self, x: usize, y: usize, buffers: &mut Buffers) -> Option<FirstMove>
         requires { (x < self.setup.tiling.width) × (y < self.setup.tiling.height) }
         ensures { result ≡ move_at (shared_of self.entry.setup) self.entry.cpe.now self.entry.indices.now x y }
     {
+        let t = self.setup.tiling;
         let q = Rect {
             x0: x,
             y0: y,
             x1: x + 1,
             y1: y + 1,
         };
-        let w = around(self.setup.tiling, q);
-        let n = (w.y1 - w.y0) * (w.x1 - w.x0);
-        self.pixel_move(w, q, &mut copy_cpe[..3 * n], &mut copy_indices[..n])
+        let pixel = Pixel {
+            w: t.image_rect(),
+            x,
+            y,
+        };
+        let k = search::index_at(self.indices, pixel);
+        let Copied { w, cpe, indices } = self.copy_around(q, buffers);
+        let ink = count_ink(indices, k);
+        let p = tile::refine_tile(cpe, indices, self.setup, w, q);
+        if p.accepted == 0 {
+            return None;
+        }
+        // A toggle takes a pixel of the ink away.
+        let kind = if count_ink(indices, k) == ink {
+            Kind::Swap
+        } else {
+            Kind::Toggle
+        };
+        Some(FirstMove {
+            pixel: y * t.width + x,
+            kind,
+            cost: p.delta,
+        })
     }
 
     // The first of a phase: its tiles in ascending number, each by rows. The first pixel that has a move is the answer; a row
     // over which the walk accepts none is passed at once.
-    // Kept: labelled loops, left from the innermost, as document 01 names them for this place.
-    fn first_in_phase(
-        self,
-        phase: usize,
-        copy_cpe: &mut [f64; 3 * ROOM],
-        copy_indices: &mut [Index; ROOM],
-    ) -> Option<FirstMove>
+    // Kept: "labelled nested loops in the settled-plate search, left from the innermost with the dot", the form that document 01
+    // names for what request F-1 of document 02 asks.
+    fn first_in_phase(self, phase: usize, buffers: &mut Buffers) -> Option<FirstMove>
         ensures { result ≡ first_in_phase (shared_of self.entry.setup) self.entry.cpe.now self.entry.indices.now phase None }
     {
         let t = Tiles {
@@ -201,11 +162,11 @@ impl<'a> Image<'a> {
                     x1: q.x1,
                     y1: y + 1,
                 };
-                if !self.row_moves(row, copy_cpe, copy_indices) {
+                if !self.row_moves(row, buffers) {
                     continue 'rows;
                 }
                 'columns: for x in q.x0..q.x1 {
-                    let here = self.move_at(x, y, copy_cpe, copy_indices);
+                    let here = self.move_at(x, y, buffers);
                     if here.is_some() {
                         return here;
                     }
@@ -213,23 +174,6 @@ impl<'a> Image<'a> {
             }
         }
         // No pixel of the phase has a move.
-        None
-    }
-
-    // The same for each phase of a pass, from the first on.
-    fn first_in_pass(
-        self,
-        copy_cpe: &mut [f64; 3 * ROOM],
-        copy_indices: &mut [Index; ROOM],
-    ) -> Option<FirstMove>
-        ensures { result ≡ first_in_pass (shared_of self.entry.setup) self.entry.cpe.now self.entry.indices.now }
-    {
-        for phase in 0..4 {
-            let first = self.first_in_phase(phase, copy_cpe, copy_indices);
-            if first.is_some() {
-                return first;
-            }
-        }
         None
     }
 }
@@ -244,7 +188,12 @@ pub fn first_in_pass(cpe: &[f64], indices: &[Index], s: Setup<'_>) -> Option<Fir
         indices,
         setup: s,
     };
-    let mut copy_cpe = [0.0f64; 3 * ROOM];
-    let mut copy_indices = [0u8; ROOM];
-    start.first_in_pass(&mut copy_cpe, &mut copy_indices)
+    let mut buffers = Buffers {
+        cpe: [0.0; 3 * ROOM],
+        indices: [0; ROOM],
+    };
+    // Not `find_map`: where calls change what a closure captures, it does not promise that at `None` each phase was tried.
+    (0..4)
+        .filter_map(|phase| start.first_in_phase(phase, &mut buffers))
+        .next()
 }

@@ -59,7 +59,7 @@ fn largest_of_four(a: &[u8], b: &[u8], c: &[u8], d: &[u8]) -> u8
     ensures { result ≡ largest_of_four a.now b.now c.now d.now }
 {
     let mut most = 0u8;
-    // Kept: four lists side by side by their places are read sixteen bytes at once, and four zips are no plainer.
+    // Kept: four lists side by side by their places: three zips of them are no plainer.
     for i in 0..a.len() {
         most = most.max(largest_of(a[i], b[i], c[i], d[i]));
     }

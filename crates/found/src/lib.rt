@@ -7,7 +7,7 @@ ghost use Rattle.found.specs.Found.{searched_of, answer_of};
 use base::{Refusal, Status};
 use firstmove::FirstMove;
 
-// Kept: C reads numbers here, so that it is no `Result` of an `Option`, and a kind no enum.
+// Kept: C reads numbers here by their names, so that it is no `Result` of an `Option`, holds no `Status`, and a kind is no enum.
 #[repr(C)]
 #[derive(Clone, Copy, Default)]
 pub struct DbsFound {

@@ -2,11 +2,15 @@
 // words.
 #![tactic(auto)]
 
+ghost use Rattle.std.specs.Prelude.{◌≡◌, ◌≤◌, length, replicate};
+ghost use Rattle.std.specs.Float.Ieee.{neg};
+ghost use Rattle.base.specs.F64.{f1};
+
 use base::Index;
 use lines::Line;
 
 // Room for so many bytes of each kind.
-const ROOM: usize = 16384;
+pub const ROOM: usize = 16384;
 
 // What a line gives to a run.
 #[derive(Clone, Copy)]
@@ -22,34 +26,39 @@ pub struct Given<'a> {
     pub indices: &'a [Index],
 }
 
-// Where the bytes lie that a line gives.
+// Where the bytes lie that a line gives. The pin mask and the indices lie side by side, the mask first: a `work` line may lend more
+// bytes than the mask has room for, and they go on into the indices.
 #[derive(Drop)]
 pub struct Store {
     pub pixels: [u8; ROOM],
     pub palette: [u8; ROOM],
-    pub pinned: [u8; ROOM],
-    pub indices: [Index; ROOM],
+    pub pinned_and_indices: [u8; 2 * ROOM],
 }
 
 impl Store {
     // Each cell is set.
-    pub fn new() -> Store {
+    pub fn new() -> Store
+        ensures colours { (result.pixels ≡ replicate 16384 255) × (result.palette ≡ replicate 16384 255) }
+        ensures others { result.pinned_and_indices ≡ replicate 32768 255 }
+    {
         Store {
             pixels: [255; ROOM],
             palette: [255; ROOM],
-            pinned: [255; ROOM],
-            indices: [255; ROOM],
+            pinned_and_indices: [255; 2 * ROOM],
         }
     }
 
     // Reads what a line gives, words 1 to 9.
-    pub fn read<'a>(&'a mut self, line: Line<'_>) -> Given<'a> {
+    pub fn read<'a>(&'a mut self, line: Line<'_>) -> Given<'a>
+        ensures images { (length result.pixels.now ≤ 16384) × (length result.indices.now ≤ 16384) }
+        ensures others { (length result.palette.now ≤ 16384) × (length result.pinned.now ≤ 16384) }
+    {
         let Store {
             pixels,
             palette,
-            pinned,
-            indices,
+            pinned_and_indices,
         } = self;
+        let (pinned, indices) = pinned_and_indices.split_at_mut(ROOM);
         Given {
             width: line.number(1),
             height: line.number(2),
@@ -76,7 +85,10 @@ pub struct Lent<const CPE: usize> {
 
 impl<const CPE: usize> Lent<CPE> {
     // Each cell is set.
-    pub fn new() -> Lent<CPE> {
+    pub fn new() -> Lent<CPE>
+        ensures floats { (result.cpe ≡ replicate CPE (neg f1)) × (result.cpp ≡ replicate 8500 (neg f1)) × (result.inks ≡ replicate 1024 (neg f1)) }
+        ensures others { (result.counts ≡ replicate 1024 4294967295) × (result.store.pinned_and_indices ≡ replicate 32768 255) }
+    {
         Lent {
             store: Store::new(),
             cpe: [-1.0; CPE],
@@ -100,7 +112,11 @@ pub struct Job {
 
 impl Job {
     // Each cell is set.
-    pub fn new() -> Job {
+    pub fn new() -> Job
+        ensures lent { (result.lent.cpe ≡ replicate 1024 (neg f1)) × (result.lent.counts ≡ replicate 1024 4294967295) × (result.lent.store.pinned_and_indices ≡ replicate 32768 255) }
+        ensures job { (result.states ≡ replicate 64 255) × (result.deltas ≡ replicate 64 (neg f1)) × (result.record ≡ replicate 16 18446744073709551615) }
+        ensures copies { (result.copy_cpe ≡ replicate 3072 (neg f1)) × (result.copy_indices ≡ replicate 1024 255) }
+    {
         Job {
             lent: Lent::new(),
             states: [255; 64],

@@ -27,6 +27,7 @@ pub struct JobRecord {
     // Passes done.
     pub done: u64,
     // The phase of this pass, 0 to 3.
+    // Kept: document 01's number, which C reads in the run; a record with a phase above 3 is taken and refused, and an enum could not hold it.
     pub phase: u64,
     // Moves accepted in this pass.
     pub accepted: u64,
@@ -48,15 +49,12 @@ impl From<TileState> for u8 {
     ghost from_gives = { λ state byte. byte ≡ byte_of state };
 
     fn from(state: TileState) -> u8 {
-        match state {
-            TileState::Waiting => 0,
-            TileState::Out => 1,
-            TileState::Back => 2,
-        }
+        state as u8
     }
 }
 
 // What a byte says of its tile.
+// Kept: a match: no derive gives it, as a byte from 2 on is back too.
 impl From<u8> for TileState {
     ghost from_gives = { λ byte state. state ≡ state_of byte };
 

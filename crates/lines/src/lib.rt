@@ -10,17 +10,14 @@ use std::fmt;
 // A line; numbers from 0 count its words.
 #[derive(Clone, Copy)]
 pub struct Line<'a> {
-    text: &'a [u8],
+    pub text: &'a [u8],
 }
 
 impl<'a> Line<'a> {
-    pub fn new(text: &'a [u8]) -> Line<'a> {
+    pub fn new(text: &'a [u8]) -> Line<'a>
+        ensures { result.text.now ≡ text.now }
+    {
         Line { text }
-    }
-
-    // What kind of line it is: the first word.
-    pub fn kind(self) -> &'a [u8] {
-        self.text.split(|b| *b == b' ').next().unwrap_or(&[])
     }
 
     // The line from word k on, nothing where it has fewer words.
@@ -31,11 +28,13 @@ impl<'a> Line<'a> {
             .unwrap_or(&[])
     }
 
-    // Kept: `number` and `bits` are a line each, and differ in the base.
+    // Word k as a number in base 10.
+    // Kept: `number` and `bits` are a line each and differ in the base: one with a base as parameter would be called with 10 at each place.
     pub fn number(self, k: usize) -> u64 {
         number(self.from_word(k), 10)
     }
 
+    // Word k as a number in base 16: a word of a record, or the bits of a float.
     pub fn bits(self, k: usize) -> u64 {
         number(self.from_word(k), 16)
     }

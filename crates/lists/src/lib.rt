@@ -5,7 +5,7 @@
 ghost use Rattle.std.specs.Prelude.{◌≤◌};
 
 use checksum::Checksum;
-use given::{Job, Lent, Store};
+use given::{Job, Lent, ROOM, Store};
 use lines::{Bits, Line, part, part_mut};
 use std::io::{self, Print};
 
@@ -16,9 +16,18 @@ fn copy_start(line: Line<'_>) -> usize
     line.number(2).min(1024) as usize
 }
 
+// Kept: what prints, a line and the job's buffers go apart here and in the calls that follow: a struct of the three would be made of them at
+// each call and taken apart at once.
 pub fn take(rt: &impl Print, line: Line<'_>, job: &mut Job) -> io::Result<()> {
     let Job {
-        lent,
+        lent: Lent {
+            store: Store {
+                pinned_and_indices,
+                ..
+            },
+            cpe,
+            ..
+        },
         states,
         record,
         copy_cpe,
@@ -32,8 +41,8 @@ pub fn take(rt: &impl Print, line: Line<'_>, job: &mut Job) -> io::Result<()> {
     let status = dbs::dbs_take(
         part(record, line.number(6)),
         line.number(1),
-        part(&lent.store.indices, line.number(3)),
-        part(&lent.cpe, line.number(4)),
+        part(&pinned_and_indices[ROOM..], line.number(3)),
+        part(cpe, line.number(4)),
         states,
         copy_cpe,
         copy_indices,
@@ -61,7 +70,7 @@ pub fn work(rt: &impl Print, line: Line<'_>, job: &mut Job) -> io::Result<()> {
     let worked = dbs::dbs_work(
         part(record, line.number(6)),
         line.number(1),
-        part(&lent.store.pinned, line.number(3)),
+        part(&lent.store.pinned_and_indices, line.number(3)),
         part(&lent.cpp, line.number(4)),
         copy_cpe,
         copy_indices,
@@ -81,7 +90,10 @@ pub fn work(rt: &impl Print, line: Line<'_>, job: &mut Job) -> io::Result<()> {
 pub fn put_back(rt: &impl Print, line: Line<'_>, job: &mut Job) -> io::Result<()> {
     let Job {
         lent: Lent {
-            store: Store { indices, .. },
+            store: Store {
+                pinned_and_indices,
+                ..
+            },
             cpe,
             ..
         },
@@ -92,7 +104,7 @@ pub fn put_back(rt: &impl Print, line: Line<'_>, job: &mut Job) -> io::Result<()
         copy_indices,
     } = job;
     let start = copy_start(line);
-    let indices = part_mut(indices, line.number(5));
+    let indices = part_mut(&mut pinned_and_indices[ROOM..], line.number(5));
     let cpe = part_mut(cpe, line.number(6));
     let states = part_mut(states, line.number(7));
     let deltas = part_mut(deltas, line.number(8));

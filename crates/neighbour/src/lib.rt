@@ -6,6 +6,7 @@ ghost use Rattle.std.specs.Prelude.{◌≡◌, ◌<◌};
 ghost use Rattle.neighbour.specs.Neighbour.{offset_of, shifted_of, neighbour_of};
 
 // The offset (dx, dy) that a code names; other codes name none.
+// Kept: a code is document 01's number from 0 to 7, and each public function here takes any code: a narrower type would ask more of callers.
 pub fn offset_at(code: u8) -> Option<(i8, i8)>
     ensures { result ≡ offset_of code }
 {

@@ -11,53 +11,53 @@ ghost use Rattle.job.specs.Record.{byte_of};
 ghost use Rattle.job.specs.Close.{with_deltas, released, next_with};
 
 use job::{JobRecord, TileState};
-use tiling::Tiles;
+use records::CheckedJob;
 
 const LAST_PHASE: u64 = 3;
 
 // The error, with a tile's delta where it is one of the phase.
-// Kept: a phase is document 01's number from 0 to 3, and a struct of it and the tiles would be taken apart again by `is_in_phase`.
-fn add_delta(t: Tiles, phase: usize, tile: usize, delta: f64, error: f64) -> f64
-    ensures { result ≡ cond (in_phase t.tiling phase tile) (error +f delta) error }
+fn add_delta(job: CheckedJob, tile: usize, delta: f64, error: f64) -> f64
+    ensures { result ≡ cond (in_phase job.record.plan.tiling job.record.phase tile) (error +f delta) error }
 {
-    if t.is_in_phase(phase, tile) {
+    if job.is_of_phase(tile) {
         return error + delta;
     }
     error
 }
 
-// The deltas of the phase's tiles joined to the error, one by one.
-pub fn add_deltas(t: Tiles, phase: usize, deltas: &[f64], error: f64) -> f64
-    ensures { result ≡ with_deltas t.tiling phase deltas.now (length deltas.now) error }
+// The job's error with the deltas of the phase's tiles joined to it, one by one.
+pub fn add_deltas(job: CheckedJob, deltas: &[f64]) -> f64
+    ensures { result ≡ with_deltas job.record.plan.tiling job.record.phase deltas.now (length deltas.now) job.record.error }
 {
-    let mut e = error;
+    let mut error = job.record.error;
     for (i, delta) in deltas.iter().enumerate() {
-        e = add_delta(t, phase, i, *delta, e);
+        error = add_delta(job, i, *delta, error);
     }
-    e
+    error
 }
 
 // The state of a tile once the phase is closed.
-fn released_state(t: Tiles, phase: usize, tile: usize, state: u8) -> u8
-    ensures { result ≡ cond (in_phase t.tiling phase tile) (byte_of Waiting) state }
+fn released_state(job: CheckedJob, tile: usize, state: u8) -> u8
+    ensures { result ≡ cond (in_phase job.record.plan.tiling job.record.phase tile) (byte_of Waiting) state }
 {
-    if t.is_in_phase(phase, tile) {
+    if job.is_of_phase(tile) {
         return u8::from(TileState::Waiting);
     }
     state
 }
 
 // The tiles of the phase set waiting.
-pub fn release(t: Tiles, phase: usize, tile_states: &mut [u8])
-    requires { length tile_states.old ≡ tiles t.tiling }
-    ensures { tile_states.new ≡ released t.tiling phase tile_states.old }
+pub fn release(job: CheckedJob, tile_states: &mut [u8])
+    requires { length tile_states.old ≡ tiles job.record.plan.tiling }
+    ensures { tile_states.new ≡ released job.record.plan.tiling job.record.phase tile_states.old }
 {
     for (i, state) in tile_states.iter_mut().enumerate() {
-        *state = released_state(t, phase, i, *state);
+        *state = released_state(job, i, *state);
     }
 }
 
 // The record of the next phase, with the error as far as reached.
+#[tactic(auto, unfolding(job::specs::Close::next_with))]
 pub fn next_record(r: JobRecord, error: f64) -> JobRecord
     requires phase_bound { r.phase ≤ 3 }
     requires done_le_max_passes { r.done ≤ max_passes }

@@ -11,6 +11,7 @@ use base::Refusal;
 use input::Input;
 
 // The run is only written.
+// Kept: the lent buffers apart, as in `start::open`: a struct of `&mut`s would say of each that it still is the host's (`ghost_name`).
 pub fn open_run(
     record: &mut [u64],
     given: Input<'_>,

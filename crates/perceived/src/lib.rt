@@ -9,7 +9,7 @@ use base::{Refusal, Status};
 use input::Input;
 
 // The perceived error, or a refusal with a zero.
-// Kept: C reads number and place here, so that it is no `Result`.
+// Kept: C reads number and place here by their names, so that it is no `Result` and holds no `Status`.
 #[repr(C)]
 #[derive(Clone, Copy, Default)]
 pub struct Measured {

@@ -18,7 +18,8 @@ pub struct Run {
 }
 
 // One tile on the whole image: its delta joins the error after it.
-// Kept: `cpe` and `indices` go apart, as the host lends them: a struct of two `&mut` would be made anew at each call.
+// Kept: `cpe` and `indices` apart: as one struct lent as `&mut`, tried, each contract says of both fields too that they still are the
+// caller's (`ghost_name`), or the caller learns nothing of them, and each loop keeps it: no plainer.
 #[tactic(auto, using(crate::proofs::Laws::image_covers), unfolding(crate::specs::Phases::walk_tile))]
 fn walk_tile(cpe: &mut [f64], indices: &mut [Index], s: Setup<'_>, tile: usize, run: Run) -> Run
     requires ready { Ready (shared_of s) (image s.tiling) (length cpe.old) indices.old }

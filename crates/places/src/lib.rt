@@ -15,6 +15,27 @@ use std::array;
 use tables::{Position, Tables};
 use tiling::Tiling;
 
+// A pixel of a window, by its column and row in the image.
+#[derive(Clone, Copy)]
+pub struct Pixel {
+    pub w: Rect,
+    pub x: usize,
+    pub y: usize,
+    pub ghost inside: { Inside w x y },
+    pub ghost bounds: { (w.x1 ≤ max_side) × (w.y1 ≤ max_side) },
+}
+
+impl Pixel {
+    // Where it stands among the pixels of the window.
+    #[tactic(auto, using(crate::proofs::Window::place_index, base::proofs::GridLaws::place_lt))]
+    pub fn place(self) -> usize
+        ensures value { result ≡ (self.y - self.w.y0) * (self.w.x1 - self.w.x0) + (self.x - self.w.x0) }
+        ensures upper_bound { result < area self.w }
+    {
+        base::place(1, self.w, self.x, self.y)
+    }
+}
+
 // A pixel and its place in the window; where all eight neighbours lie in the image also the places of
 // the pixel above and left of it.
 #[derive(Clone, Copy)]
@@ -23,18 +44,6 @@ pub struct Spot {
     pub y: usize,
     pub own: usize,
     pub amid: Option<Position>,
-}
-
-// Where pixel (x, y) stands among the pixels of the window.
-// Kept: a pixel goes as its window, column and row with the clause that it lies inside: loops count both, and a struct would be made at each call.
-#[tactic(auto, using(crate::proofs::Window::place_index, base::proofs::GridLaws::place_lt))]
-pub fn local(w: Rect, x: usize, y: usize) -> usize
-    requires inside { Inside w x y }
-    requires x1_le_max_side { (w.x1 ≤ max_side) × (w.y1 ≤ max_side) }
-    ensures value { result ≡ (y - w.y0) * (w.x1 - w.x0) + (x - w.x0) }
-    ensures upper_bound { result < area w }
-{
-    base::place(1, w, x, y)
 }
 
 // Whether all eight neighbours lie in the image.
@@ -46,17 +55,22 @@ fn is_amid(t: Tiling, x: usize, y: usize) -> bool
 }
 
 // What the places of a pixel's neighbours are found from.
+// Kept: `Held` in a clause, here and in search, moves and tile: it is of a pixel, its window and the image. A struct of the three would be
+// made of what tile's loops count, at each pixel, and its neighbours, which moves writes too, need not be held.
 #[tactic(auto, using(crate::proofs::Window::window_limits), unfolding(tiling::specs::Tiling::image))]
-pub fn spot_of(t: Tiling, w: Rect, x: usize, y: usize) -> Spot
+pub fn spot_of(t: Tiling, pixel: Pixel) -> Spot
     requires limits { Limits t }
-    requires within { Within (image t) w }
-    requires held { Held t w x y }
-    ensures { (result.x ≡ x) × (result.y ≡ y) × Spotted t w result }
+    requires within { Within (image t) pixel.w }
+    requires held { Held t pixel.w pixel.x pixel.y }
+    ensures { (result.x ≡ pixel.x) × (result.y ≡ pixel.y) × Spotted t pixel.w result }
 {
+    let Pixel { w, x, y } = pixel;
     let amid = if is_amid(t, x, y) {
+        let (x, y) = (x - 1, y - 1);
+        let image = t.image_rect();
         Some(Position {
-            window: local(w, x - 1, y - 1),
-            mask: local(t.image_rect(), x - 1, y - 1),
+            window: Pixel { w, x, y }.place(),
+            mask: Pixel { w: image, x, y }.place(),
         })
     } else {
         None
@@ -64,7 +78,7 @@ pub fn spot_of(t: Tiling, w: Rect, x: usize, y: usize) -> Spot
     Spot {
         x,
         y,
-        own: local(w, x, y),
+        own: pixel.place(),
         amid,
     }
 }
@@ -81,17 +95,24 @@ pub struct Around<'a> {
 }
 
 impl<'a> Around<'a> {
+    // The mask as it is looked up.
+    fn mask(self) -> Pins<'a>
+        ensures pinned { result.pinned.now ≡ self.entry.pinned.now }
+        ensures width { result.width ≡ self.entry.tiling.width }
+    {
+        Pins {
+            pinned: self.pinned,
+            width: self.tiling.width,
+        }
+    }
+
     // Amid the image each neighbour stands a step on.
     fn step_place(self, corner: Position, code: usize) -> usize
         requires { (self.spot.amid ≡ Some corner) × (code < 8) }
         ensures { result ≡ partner_place self.entry.pinned.now self.entry.tiling self.entry.tab.w self.entry.spot.x self.entry.spot.y code }
     {
         let step = self.tab.steps[code];
-        let mask = Pins {
-            pinned: self.pinned,
-            width: self.tiling.width,
-        };
-        if mask.is_pinned_at(corner.mask + step.mask) {
+        if self.mask().is_pinned_at(corner.mask + step.mask) {
             return self.spot.own;
         }
         corner.window + step.window
@@ -105,20 +126,19 @@ impl<'a> Around<'a> {
     {
         let p = self.spot;
         let t = self.tiling;
-        let mask = Pins {
-            pinned: self.pinned,
-            width: t.width,
-        };
         match neighbour::neighbour(code as u8, p.x, p.y, t.width, t.height) {
-            Some((nx, ny)) if !mask.is_pinned(nx, ny) => local(self.tab.w, nx, ny),
+            Some((x, y)) if !self.mask().is_pinned(x, y) => {
+                let w = self.tab.w;
+                Pixel { w, x, y }.place()
+            }
             _ => p.own,
         }
     }
 
     // Where the neighbour stands that a swap by this code would be made with. One that is outside the image or pinned
     // reads as the pixel itself, which has its own ink, so that no swap is weighed.
-    // Kept: `code < 8` in a clause: a type of codes would be made of the number that `from_fn` counts with, and read as that
-    // number for the steps and in `neighbour`.
+    // Kept: `code < 8` in a clause: `neighbour` has document 01's codes as numbers, of which it takes any, so that a type of those below 8
+    // would be made of the number that `from_fn` counts with and read as it again.
     fn partner_place(self, code: usize) -> usize
         requires { code < 8 }
         ensures { result ≡ partner_place self.entry.pinned.now self.entry.tiling self.entry.tab.w self.entry.spot.x self.entry.spot.y code }

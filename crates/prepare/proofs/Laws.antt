@@ -93,25 +93,24 @@ length_field T G cpp = length-table _ _
 
 -- ---- what the code makes, step by step, is what the definitions say
 
-module _ (I : Input) (T : Tiling) (inks cpp₀ cpp : List Float) (t : T ≡ tiling_of I) (i : inks ≡ ink_values I.palette) (k : cpp ≡ eye_kernels I.params cpp₀) where
-  pub field_is : field_of T (scene I.pixels I.indices I.pinned inks) cpp ≡ cpe_of I cpp₀
-  unfolding cpe_of scene_of inks_of cpp_of
-  field_is = rw (t, i, k)
+module _ (I : Input) (T : Tiling) (t : T ≡ tiling_of I) where
+  pub scene_fits_as : judge (input_tests I) ≡ accepted → (inks : List Float) → inks ≡ inks_of I → SceneFits T.width T.height (scene I.pixels I.indices I.pinned inks)
+  unfolding scene_of
+  scene_fits_as ok inks i = rw (t, i) (scene_fits I ok)
 
-  pub field_length : (cpe : List Float) → cpe ≡ field_of T (scene I.pixels I.indices I.pinned inks) cpp → length cpe ≡ 3 * (T.height * T.width)
-  field_length cpe e = rw e (length_field T (scene I.pixels I.indices I.pinned inks) cpp)
+  module _ (cpp₀ : List Float) where
+    pub field_fits : (w h : ℕ) (cpp : List Float) → (w ≡ T.width) × (h ≡ T.height) → cpp ≡ eye_kernels I.params cpp₀ → judge (input_tests I) ≡ accepted → length cpp₀ ≡ cpp_length →
+        FieldFits T w h (length cpp)
+    unfolding cpp_of
+    field_fits w h cpp s k ok e = record { limits = rw t (limits I ok); width = s.0; height = s.1; store = rw k (cpp_len I ok cpp₀ e) }
 
-  pub error_is : (cpe : List Float) → cpe ≡ cpe_of I cpp₀ → initial_error T.width T.height (scene I.pixels I.indices I.pinned inks) cpe ≡ error_of I cpp₀
-  unfolding error_of scene_of inks_of
-  error_is cpe e = rw (t, i, e)
+    pub field_is : (G : Scene) (cpp : List Float) → G ≡ scene_of I → cpp ≡ eye_kernels I.params cpp₀ → field_of T G cpp ≡ cpe_of I cpp₀
+    unfolding cpe_of cpp_of
+    field_is G cpp g k = rw (t, g, k)
 
-  pub scene_fits_as : judge (input_tests I) ≡ accepted → SceneFits T.width T.height (scene I.pixels I.indices I.pinned inks)
-  unfolding scene_of inks_of
-  scene_fits_as ok = rw (t, i) (scene_fits I ok)
-
-  pub field_fits : judge (input_tests I) ≡ accepted → length cpp₀ ≡ cpp_length → FieldFits T T.width T.height (length cpp)
-  unfolding cpp_of
-  field_fits ok e = record { limits = rw t (limits I ok); width = refl; height = refl; store = rw k (cpp_len I ok cpp₀ e) }
+    pub error_is : (w h : ℕ) (G : Scene) (cpe : List Float) → (w ≡ T.width) × (h ≡ T.height) → G ≡ scene_of I → cpe ≡ cpe_of I cpp₀ → initial_error w h G cpe ≡ error_of I cpp₀
+    unfolding error_of
+    error_is w h G cpe s g e = rw (s.0, s.1, t, g, e)
 
 -- ---- what was built
 
@@ -126,18 +125,10 @@ module _ (I : Input) (T : Tiling) (inks cpp₀ cpp cpe : List Float) (t : T ≡ 
   unfolding shared_of
   built_ready ok e = rw (built_inks ok, t, b.inks_is, b.cpp_is, b.cpe_is) (start_ready I ok cpp₀ e)
 
-  -- and the initial error is worked out from it
-  pub built_scene : judge (input_tests I) ≡ accepted → SceneFits T.width T.height (scene I.pixels I.indices I.pinned inks)
-  unfolding inks_of cpp_of
-  built_scene ok = scene_fits_as I T inks cpp₀ cpp t b.inks_is b.cpp_is ok
-
-  pub built_room : length cpe ≡ 3 * (T.height * T.width)
+  -- the field is as long as the image asks
+  pub built_room : (w h : ℕ) → (w ≡ T.width) × (h ≡ T.height) → length cpe ≡ 3 * (h * w)
   unfolding cpe_of
-  built_room = rw (b.cpe_is, t) (length_field (tiling_of I) (scene_of I) (cpp_of I cpp₀))
-
-  pub built_error : initial_error T.width T.height (scene I.pixels I.indices I.pinned inks) cpe ≡ error_of I cpp₀
-  unfolding inks_of cpp_of
-  built_error = error_is I T inks cpp₀ cpp t b.inks_is b.cpp_is cpe b.cpe_is
+  built_room w h s = rw (s.0, s.1, b.cpe_is, t) (length_field (tiling_of I) (scene_of I) (cpp_of I cpp₀))
 
 -- ---- what `prepare` asks for
 

@@ -47,6 +47,12 @@ pub record ReadyToPrepare (I : Input) (T : Tiling) (inks cpp cpe : ℕ) : Type 0
   pub cpp_len : cpp ≡ cpp_length
   pub cpe_length : cpe ≡ 3 * pixel_count I
 
+-- buffers of the lengths that an accepted input asks for
+pub record RoomFor (I : Input) (inks cpp cpe : ℕ) : Type 0 where
+  pub inks_length : inks ≡ 3 * ink_count I
+  pub cpp_len : cpp ≡ cpp_length
+  pub cpe_length : cpe ≡ 3 * pixel_count I
+
 -- the buffers afterwards
 pub record Built (I : Input) (cpp₀ : List Float) (inks cpp cpe : List Float) : Type 0 where
   pub inks_is : inks ≡ inks_of I

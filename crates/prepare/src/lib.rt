@@ -2,53 +2,48 @@
 // the initial error of an accepted input, into lent buffers.
 #![tactic(auto)]
 
-ghost use Rattle.std.specs.Prelude.{length};
+ghost use Rattle.std.specs.Prelude.{◌≡◌, length};
+ghost use Rattle.error.specs.Scenes.{image_of};
 ghost use Rattle.input.specs.Inputs.{input_of};
-ghost use Rattle.prepare.specs.Prepare.{ReadyToPrepare, Built, Prepared};
+ghost use Rattle.prepare.specs.Prepare.{inks_of, scene_of, RoomFor, Built, Prepared};
 
 use error::Scene;
-use input::Input;
-use tiling::Tiling;
+use sizes::Accepted;
 
-// Ink values, kernels and `cpe` into the lent buffers.
-// Kept: what is asked is of the lengths of three lent buffers, each of which is borrowed apart: a struct would borrow all three.
-pub fn build(given: Input<'_>, t: Tiling, inks: &mut [f64], cpp: &mut [f64], cpe: &mut [f64])
-    requires { ReadyToPrepare (input_of given) t (length inks.old) (length cpp.old) (length cpe.old) }
-    ensures { Built (input_of given.entry) cpp.old inks.new cpp.new cpe.new }
+// What the errors of an accepted input are made of, with its ink values.
+fn scene<'a>(a: Accepted<'a>, inks: &'a [f64]) -> Scene<'a>
+    requires { inks.now ≡ inks_of (input_of a.given) }
+    ensures size { (result.width ≡ a.entry.tiling.width) × (result.height ≡ a.entry.tiling.height) }
+    ensures image { image_of result ≡ scene_of (input_of a.entry.given) }
 {
-    color::palette_to_inks(given.palette, inks);
-    kernel::eye_kernels(given.params, cpp);
-    let scene = Scene {
-        width: t.width,
-        height: t.height,
+    let given = a.given;
+    Scene {
+        width: a.tiling.width,
+        height: a.tiling.height,
         pixels: given.pixels,
         indices: given.indices,
         pinned: given.pinned,
         inks,
-    };
-    field::initial_field(scene, cpp, t, cpe);
+    }
+}
+
+// Ink values, kernels and `cpe` into the lent buffers.
+// Kept: three lent buffers with their lengths in a clause: as a struct lent as `&mut` the clause would say of each that it still is the
+// caller's (`ghost_name`), and be no shorter.
+pub fn build(a: Accepted<'_>, inks: &mut [f64], cpp: &mut [f64], cpe: &mut [f64])
+    requires { RoomFor (input_of a.given) (length inks.old) (length cpp.old) (length cpe.old) }
+    ensures { Built (input_of a.entry.given) cpp.old inks.new cpp.new cpe.new }
+{
+    color::palette_to_inks(a.given.palette, inks);
+    kernel::eye_kernels(a.given.params, cpp);
+    field::initial_field(scene(a, inks), cpp, a.tiling, cpe);
 }
 
 // The same; the answer is the initial error.
-pub fn prepare(
-    given: Input<'_>,
-    t: Tiling,
-    inks: &mut [f64],
-    cpp: &mut [f64],
-    cpe: &mut [f64],
-) -> f64
-    requires { ReadyToPrepare (input_of given) t (length inks.old) (length cpp.old) (length cpe.old) }
-    ensures { Prepared (input_of given.entry) cpp.old inks.new cpp.new cpe.new result }
+pub fn prepare(a: Accepted<'_>, inks: &mut [f64], cpp: &mut [f64], cpe: &mut [f64]) -> f64
+    requires { RoomFor (input_of a.given) (length inks.old) (length cpp.old) (length cpe.old) }
+    ensures { Prepared (input_of a.entry.given) cpp.old inks.new cpp.new cpe.new result }
 {
-    build(given, t, inks, cpp, cpe);
-    // Kept: as in `build`; tried: if that hands it out, `inks` is lent on and has no `new`, and the check proves no `ensures*` where a body lends a `&`.
-    let scene = Scene {
-        width: t.width,
-        height: t.height,
-        pixels: given.pixels,
-        indices: given.indices,
-        pinned: given.pinned,
-        inks,
-    };
-    scene.initial_error(cpe)
+    build(a, inks, cpp, cpe);
+    scene(a, inks).initial_error(cpe)
 }

@@ -4,7 +4,7 @@
 ghost use Rattle.std.specs.Prelude.{◌≡◌, ◌<◌, ◌^◌};
 ghost use Rattle.progress.specs.Progress.{one_more, counted};
 
-use search::Move;
+use search::{Best, Move};
 
 // Moves accepted and the sum of their costs.
 #[derive(Clone, Copy, Default)]
@@ -14,6 +14,7 @@ pub struct Progress {
 }
 
 impl Progress {
+    // Kept: a bound of the count in a clause, here, below and in tile: the type is made of any count that C gives.
     fn one_more(self, cost: f64) -> Progress
         requires { self.accepted < 2 ^ 62 }
         ensures { result ≡ one_more self cost }
@@ -25,13 +26,13 @@ impl Progress {
     }
 
     // A move counts, and its cost joins the sum.
-    pub fn count_move(self, cost: f64, mv: Move) -> Progress
+    pub fn count_move(self, best: Best) -> Progress
         requires { self.accepted < 2 ^ 62 }
-        ensures { result ≡ counted mv cost self }
+        ensures { result ≡ counted best.mv best.cost self }
     {
-        match mv {
+        match best.mv {
             Move::Stay => self,
-            Move::Toggle(_) | Move::Swap(_) => self.one_more(cost),
+            Move::Toggle(_) | Move::Swap(_) => self.one_more(best.cost),
         }
     }
 }

@@ -12,9 +12,10 @@ ghost use Rattle.job.specs.Boundary.{put_back_run};
 use base::{Index, Refusal};
 use job::{JobRecord, TileState};
 use progress::Progress;
-use tiling::Tiles;
 
 // Write a copy back over its region, with the count and delta that work answered.
+// Kept: the lent buffers apart, as the host has them: a struct of `&mut`s would be made of them at each call, and its contract say of each
+// that it still is the host's (`ghost_name`).
 fn put_back(
     r: JobRecord,
     tile: u64,
@@ -28,7 +29,7 @@ fn put_back(
 ) -> Result<JobRecord, Refusal>
     ensures { put_back (status_of result) (result_unwrap_or result r) (pixels cpe.new indices.new) tile_states.new deltas.new ≡ put_back_of r tile (pixels cpe.old indices.old) tile_states.old deltas.old (state copy_cpe.now copy_indices.now progress) }
 {
-    putbacktests::check_put_back(
+    let job = putbacktests::check_put_back(
         r,
         tile,
         indices,
@@ -39,12 +40,8 @@ fn put_back(
         copy_indices,
         progress,
     )?;
-    let plan = r.plan;
-    let t = Tiles {
-        tiling: plan.tiling,
-    };
     let i = tile as usize;
-    regions::write_region(t, i, indices, cpe, copy_cpe, copy_indices);
+    regions::write_region(job.tiles(), i, indices, cpe, copy_cpe, copy_indices);
     tile_states[i] = u8::from(TileState::Back);
     deltas[i] = progress.delta;
     Ok(JobRecord {

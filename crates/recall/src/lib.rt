@@ -8,7 +8,6 @@ ghost use Rattle.job.specs.Recall.{recalled, recall_tests, recall_of};
 ghost use Rattle.job.specs.Boundary.{recall_run};
 
 use base::{Buffer, Refusal};
-use input::check_length;
 use job::{JobRecord, TileState};
 
 // Refusals 12, 16, 13, 11 and 14.
@@ -18,11 +17,7 @@ fn check_recall(r: JobRecord, tile: u64, tile_states: &[u8]) -> Result<(), Refus
 {
     let job = records::check_record(r)?;
     job.check_turn(tile)?;
-    check_length(
-        Buffer::TileStates,
-        tile_states.len(),
-        job.tiles().tile_count(),
-    )?;
+    job.check_per_tile(Buffer::TileStates, tile_states.len())?;
     records::check_state(tile_states, tile as usize, TileState::Out)
 }
 

@@ -11,7 +11,7 @@ use Rattle.base.specs.declared.Status.{Status}
 use Rattle.base.specs.Answer.{number_and_place}
 use Rattle.base.specs.Refusal.{Test, test, judge, accepted, Passes}
 use Rattle.base.proofs.Bounds.{image_product}
-use Rattle.base.proofs.JudgeLaws.{ends_at, follows}
+use Rattle.base.proofs.JudgeLaws.{stays_at, ends_at, follows}
 use Rattle.base.proofs.RefusalLaws.{Numbered, passes_of}
 use Rattle.input.specs.Input.{length_test}
 use Rattle.tiling.specs.declared.Tiling.{Tiling}
@@ -52,9 +52,17 @@ pub image_states : (T : Tiling) (indices cpe states : ℕ) →
 unfolding Numbered Passes
 image_states T indices cpe states e = equal_of _ _ (passes_of (_ ∷ _ ∷ _ ∷ []) (omega arith) (sym e)).1.1.0
 
+pub per_tile : (buffer len wanted : ℕ) → accepted ≡ judge (length_test buffer len wanted ∷ []) → len ≡ wanted
+unfolding Numbered Passes
+per_tile buffer len wanted e = equal_of _ _ (passes_of (_ ∷ []) (omega arith) (sym e)).0
+
 -- ---- the tests of a record, and those that follow
 
 module _ (r : JobRecord) (rest : List Test) where
+  -- a record that is refused refuses the call
+  pub record_refused : {s : Status} → s ≡ judge (record_tests r) → (s.number ≡ 0 → ⊥) → s ≡ judge (record_tests r ++ rest)
+  record_refused e h = stays_at (record_tests r) rest (record_numbered r) e h
+
   pub record_refuses : (e : Refusal) → number_and_place e ≡ judge (record_tests r) → number_and_place e ≡ judge (record_tests r ++ rest)
   record_refuses e h = ends_at e (record_tests r) rest (record_numbered r) h
 

@@ -10,6 +10,7 @@ use accepted::Stats;
 use base::{Index, Refusal};
 use eye::DbsParams;
 use input::Input;
+use sizes::{Lent, Passes};
 
 // Refine the indices in place, by the plain walk over the whole image.
 pub fn refine(
@@ -37,7 +38,12 @@ pub fn refine(
         pinned,
         params,
     };
-    let tiling = sizes::check_refine(given, max_passes, cpe, cpp, accepted_per_pass, inks)?;
+    let passes = Passes {
+        allowed: max_passes,
+        counts: accepted_per_pass,
+    };
+    let a = sizes::check_refine(given, passes, Lent { cpe, cpp, inks })?;
+    let tiling = a.tiling;
     Ok(accepted::refine_accepted(
         pixels,
         palette,

@@ -11,7 +11,8 @@ use base::Index;
 use tiling::Tiles;
 
 // The region of a tile into both copies.
-// Kept: `cpe` and `indices` go apart, as the host lends them: a struct of two `&mut` would be made anew at each call.
+// Kept: `cpe` and `indices` apart: as one struct lent as `&mut`, tried, each contract says of both fields too that they still are the
+// caller's (`ghost_name`), or the caller learns nothing of them, and each loop keeps it: no plainer.
 pub fn copy_region(
     t: Tiles,
     tile: usize,

@@ -4,45 +4,67 @@
 //   grep -E '^(refine|measure|find|opened|taken|worked|back|recalled|closed) ' compare/replay.txt > crates/replay/stdout
 #![tactic(auto)]
 
+ghost use Rattle.std.specs.Prelude.{◌<◌, ◌≤◌, length};
+
 use given::Job;
 use lines::Line;
 use std::io::{self, Print, Read};
 
-// A line of a list behind its open.
-fn list_line(rt: &impl Print, line: Line<'_>, job: &mut Job) -> io::Result<()> {
-    match line.kind() {
-        b"take" => lists::take(rt, line, job)?,
-        b"work" => lists::work(rt, line, job)?,
-        b"put_back" => lists::put_back(rt, line, job)?,
-        b"recall" => lists::recall(rt, line, job)?,
-        b"close" => lists::close(rt, line, job)?,
-        b"word" => lists::set_word(line, job),
+// The letter that tells the lines of a list apart: the first, or of word and work the last.
+// Kept: a letter: an enum would be made of it to be matched once, and by the whole word a misspelled line would do something else than it did.
+fn letter(line: &[u8]) -> Option<&u8> {
+    match line.first() {
+        Some(b'w') => line.get(3),
+        first => first,
+    }
+}
+
+// Runs a line of a list.
+fn list_line(rt: &impl Print, text: &[u8], job: &mut Job) -> io::Result<()> {
+    let line = Line::new(text);
+    match letter(text) {
+        Some(b'o') => opens::open(rt, line, job)?,
+        Some(b't') => lists::take(rt, line, job)?,
+        Some(b'k') => lists::work(rt, line, job)?,
+        Some(b'p') => lists::put_back(rt, line, job)?,
+        Some(b'r') => lists::recall(rt, line, job)?,
+        Some(b'c') => lists::close(rt, line, job)?,
+        Some(b'd') => lists::set_word(line, job),
         _ => lists::set_index(line, job),
     }
     Ok(())
 }
 
-// A list begins with an open and finds each cell of every buffer set. Lines behind a call, up to the next open, are passed over.
-fn all_lines(rt: &impl Print, text: &[u8]) -> io::Result<()> {
-    let mut list = Some(Job::new());
-    for text in text.split(|b| *b == b'\n') {
-        let line = Line::new(text);
-        match line.kind() {
-            b"call" => {
-                list = None;
-                calls::call(rt, line)?;
-            }
-            b"open" => {
-                let mut job = Job::new();
-                opens::open(rt, line, &mut job)?;
-                list = Some(job);
-            }
-            _ => {
-                if let Some(job) = &mut list {
-                    list_line(rt, line, job)?;
-                }
-            }
+// A list, which begins with an open, finds each cell of every buffer set.
+fn list(rt: &impl Print, text: &[u8]) -> io::Result<()> {
+    let mut job = Job::new();
+    for line in text.split(|b| *b == b'\n') {
+        list_line(rt, line, &mut job)?;
+    }
+    Ok(())
+}
+
+// Where the list or the call ends that begins here: the next begins with a line that has these letters first, and no other line has them.
+fn part_end(text: &[u8]) -> usize
+    requires { 0 < length text.now }
+    ensures begins { 0 < result }
+    ensures ends { result ≤ length text.now }
+{
+    text.windows(4)
+        .skip(1)
+        .position(|w| matches!(w, b"\nope" | b"\ncal"))
+        .map_or(text.len(), |i| i + 2)
+}
+
+fn all_parts(rt: &impl Print, text: &[u8]) -> io::Result<()> {
+    let mut rest = text;
+    while !rest.is_empty() {
+        let (part, others) = rest.split_at(part_end(rest));
+        match part {
+            [b'c', ..] => calls::call(rt, Line::new(part))?,
+            _ => list(rt, part)?,
         }
+        rest = others;
     }
     Ok(())
 }
@@ -50,5 +72,5 @@ fn all_lines(rt: &impl Print, text: &[u8]) -> io::Result<()> {
 fn main(rt: HostRuntime) -> io::Result<()> {
     let mut text = Vec::new(rt.alloc());
     rt.reader().read_to_end(&mut text)?;
-    all_lines(&rt, &text)
+    all_parts(&rt, &text)
 }

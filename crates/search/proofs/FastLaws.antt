@@ -1,16 +1,15 @@
--- What specs/Fast.antt describes is what specs/Search.antt defines: numbers stand for moves, and swaps by places are swaps by code, since one with the
--- pixel itself is none. Assumes nothing.
+-- What specs/Fast.antt describes is what specs/Search.antt defines: swaps by places are swaps by code, since one with the pixel itself is none. Assumes
+-- nothing.
 use mathlib.Core.Path.{◌≡◌, refl, sym, ap, ◌∙◌}
 use mathlib.Core.Bool.{Bool, true, false, cond}
 use mathlib.Core.List.{List}
-use Prim.Native.Nat.{ℕ, ◌+◌, ◌-◌, ◌*◌, ◌<◌}
+use Prim.Native.Nat.{ℕ, ◌*◌, ◌<◌}
 use native.Mathlib.Omega.{arith}
-use borrow.Author.Tests.{lt-ltb, le-ltb, eq-eqb}
+use borrow.Author.Tests.{eq-eqb}
 use lib.Dec.{eqb}
 use lib.ListN.{get_or, length}
 use lib.Ieee.{Float}
 use Rattle.base.specs.declared.Rect.{Rect}
-use Rattle.base.specs.Limits.{max_inks}
 use Rattle.base.specs.Grid.{Inside, cell}
 use Rattle.base.specs.Loop.{up_to, table}
 use Rattle.base.proofs.LoopLaws.{up_to_same}
@@ -28,13 +27,13 @@ use Rattle.places.specs.Places.{Held, place_of, unpinned, place_by, partner_plac
 use Rattle.places.proofs.Window.{place_index, area_limit, held_inside, neighbour_inside}
 use Rattle.search.specs.declared.Best.{Best}
 use Rattle.search.specs.declared.Site.{Site}
-use Rattle.search.specs.declared.Move.TheVariants.{Toggle, Swap}
+use Rattle.search.specs.declared.Move.TheVariants.{Swap}
 use Rattle.search.specs.Shared.{Shared, ink_at, cpe_at, index_at, Ready}
 use Rattle.search.specs.Search.{gaps, swap_cost, better_of, eligible, partner_of, swap_with, try_swap, swaps, no_move, try_toggle, toggles, evaluate_of}
 use Rattle.search.specs.Fast.{swap_by, gaps_at, swaps_by, SwapFits, AllFit}
 use Rattle.search.proofs.Window.{cpe_values, ready_limits}
 
--- ---- a move as a number
+-- ---- what places are found from
 
 -- tables of the window have the steps
 pub findable : {S : Shared} {n : ℕ} {indices : List ℕ} (tab : Tables) → Ready S tab.w n indices → tab ≡ tables_of S.cpp S.tiling tab.w → Findable S.pinned S.tiling tab

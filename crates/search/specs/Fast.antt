@@ -1,17 +1,16 @@
 -- A SHAPE FOR SPEED: nothing that a reader has to believe.
--- The shapes that the code has for speed: a move as a number, and swaps by the places of the neighbours (crate `places`).
--- proofs/FastLaws.antt says that they give what Search.antt defines; no contract of another crate's answer cites them.
-use Rattle.std.specs.Prelude.{◌≡◌, cond, List, ℕ, ◌+◌, ◌-◌, ◌*◌, ◌<◌, ◌≤◌, ltb, eqb, get_or, length, Float}
+-- The shape that the code has for speed: swaps by the places of the neighbours (crate `places`).
+-- proofs/FastLaws.antt says that it gives what Search.antt defines; no contract of another crate's answer cites them.
+use Rattle.std.specs.Prelude.{◌≡◌, cond, List, ℕ, ◌+◌, ◌*◌, ◌<◌, ◌≤◌, eqb, get_or, length, Float}
 use Rattle.std.specs.Float.{nan}
-use Rattle.base.specs.Limits.{max_inks, max_pixels}
+use Rattle.base.specs.Limits.{max_pixels}
 use Rattle.base.specs.Loop.{up_to}
 use Rattle.color.specs.declared.YyCxCz.{YyCxCz}
 use Rattle.color.specs.Values.{values_at, less_of}
 use Rattle.tables.specs.declared.Tables.{Tables}
 use Rattle.search.specs.declared.Best.{Best}
 use Rattle.search.specs.declared.Site.{Site}
-use Rattle.search.specs.declared.Move.{Move}
-use Rattle.search.specs.declared.Move.TheVariants.{Stay, Toggle, Swap}
+use Rattle.search.specs.declared.Move.TheVariants.{Swap}
 use Rattle.search.specs.Search.{swap_cost, better_of}
 
 -- v is the ink of the pixel

@@ -3,17 +3,17 @@
 #![tactic(auto)]
 
 ghost use Rattle.std.specs.Prelude.{◌≡◌, ◌+◌, ◌-◌, ◌*◌, ◌/◌, ◌<◌, ◌≤◌, length};
-ghost use Rattle.base.specs.Limits.{max_side, max_inks};
-ghost use Rattle.base.specs.Grid.{Inside, area};
+ghost use Rattle.base.specs.Limits.{max_inks};
+ghost use Rattle.base.specs.Grid.{area};
 ghost use Rattle.base.specs.Loop.{up_to};
 ghost use Rattle.tables.specs.Tables.{tables_of};
 ghost use Rattle.search.specs.Shared.{shared_of, cpe_at, index_at, Ready, Held};
 ghost use Rattle.search.specs.Fast.{Inked, swap_by, SwapFits, swaps_by, AllFit};
 ghost use Rattle.search.specs.Search.{better_of, no_move, try_toggle, evaluate_of};
 
-use base::{Index, MAX_INKS, Rect};
+use base::{Index, MAX_INKS};
 use color::YyCxCz;
-use places::Around;
+use places::{Around, Pixel};
 use tables::Tables;
 use tiling::Tiling;
 
@@ -41,8 +41,8 @@ pub struct Site {
 
 // What every tile has in common and none changes: the image with its kernels' radii, the pin mask,
 // the ink values, 3 an ink, and the kernel store.
-// Kept: no ghost field has what `Ready` says of these alone: each contract would still name the other half of it, of
-// the window and its two lists, in as many words, and each proof would join the two.
+// Kept: no ghost field has what `Ready`, or `Writable` of moves, says of these alone: each contract would still name the other half of it,
+// of the window and its two lists, in as many words, and each proof would join the two.
 #[derive(Clone, Copy)]
 pub struct Setup<'a> {
     pub tiling: Tiling,
@@ -61,25 +61,20 @@ pub struct Tabled<'a> {
 
 // The index of a pixel of the window.
 #[tactic(auto, using(places::proofs::Window::place_index), unfolding(base::specs::Grid::cell))]
-pub fn index_at(indices: &[Index], w: Rect, x: usize, y: usize) -> usize
-    requires inside { Inside w x y }
-    requires x1_le_max_side { (w.x1 ≤ max_side) × (w.y1 ≤ max_side) }
-    requires indices_len { length indices.now ≡ area w }
-    ensures { result ≡ index_at w indices.now x y }
+pub fn index_at(indices: &[Index], pixel: Pixel) -> usize
+    requires { length indices.now ≡ area pixel.w }
+    ensures { result ≡ index_at pixel.w indices.now pixel.x pixel.y }
 {
-    let m = places::local(w, x, y);
-    usize::from(indices[m])
+    usize::from(indices[pixel.place()])
 }
 
 // `cpe` at a pixel of the window.
 #[tactic(auto, using(crate::proofs::Window::place_cpe, crate::proofs::Window::cpe_values))]
-pub fn cpe_at(cpe: &[f64], w: Rect, x: usize, y: usize) -> YyCxCz
-    requires inside { Inside w x y }
-    requires x1_le_max_side { (w.x1 ≤ max_side) × (w.y1 ≤ max_side) }
-    requires cpe_len { length cpe.now ≡ 3 * area w }
-    ensures { result ≡ cpe_at w cpe.now x y }
+pub fn cpe_at(cpe: &[f64], pixel: Pixel) -> YyCxCz
+    requires { length cpe.now ≡ 3 * area pixel.w }
+    ensures { result ≡ cpe_at pixel.w cpe.now pixel.x pixel.y }
 {
-    color::values_at(cpe, base::place(3, w, x, y))
+    color::values_at(cpe, base::place(3, pixel.w, pixel.x, pixel.y))
 }
 
 impl Best {
@@ -94,9 +89,11 @@ impl Best {
     }
 }
 
-// A pixel whose moves are weighed, with the ink values and the pixel's ink among them.
+// A pixel whose moves are weighed, with the window's lists, the ink values and the pixel's ink among them.
 #[derive(Clone, Copy)]
 struct Weighed<'a> {
+    cpe: &'a [f64],
+    indices: &'a [Index],
     inks: &'a [f64],
     site: Site,
     ink: YyCxCz,
@@ -124,6 +121,7 @@ impl<'a> Weighed<'a> {
         ensures { result ≡ up_to (try_toggle self.entry.inks.now p self.entry.site) (length self.entry.inks.now / 3) b }
     {
         let mut best = b;
+        // Kept: inks by their number, which is what a toggle names: by `as_chunks` the loop would count it too.
         for j in 0..self.inks.len() / 3 {
             best = self.try_toggle(p, j, best);
         }
@@ -131,28 +129,20 @@ impl<'a> Weighed<'a> {
     }
 
     // The swap with the pixel at place n of the window, if it has another ink. g: the kernels at their centres less beside them.
-    // Kept: `code < 8` in a clause: a type of codes would be made of the number that the loop counts with, and read as
-    // that number here.
+    // Kept: `code < 8` in a clause: `Move` and `neighbour` have document 01's codes as numbers, of which they take any, so that a type of
+    // those below 8 would be read as a number again here.
     #[tactic(auto, unfolding(crate::specs::Fast::swap_by))]
-    fn swap_at(
-        self,
-        cpe: &[f64],
-        indices: &[Index],
-        g: YyCxCz,
-        n: usize,
-        code: usize,
-        b: Best,
-    ) -> Best
-        requires swap_fits { SwapFits cpe.now indices.now self.inks.now n }
+    fn swap_at(self, g: YyCxCz, n: usize, code: usize, b: Best) -> Best
+        requires swap_fits { SwapFits self.cpe.now self.indices.now self.inks.now n }
         requires code_bound { code < 8 }
-        ensures { result ≡ swap_by self.entry.inks.now cpe.now indices.now g self.entry.site n code b }
+        ensures { result ≡ swap_by self.entry.inks.now self.entry.cpe.now self.entry.indices.now g self.entry.site n code b }
     {
-        let kn = usize::from(indices[n]);
+        let kn = usize::from(self.indices[n]);
         if kn == self.site.k {
             return b;
         }
         let a = color::values_at(self.inks, 3 * kn) - self.ink;
-        let cn = color::values_at(cpe, 3 * n);
+        let cn = color::values_at(self.cpe, 3 * n);
         b.better(
             cost::swap_cost(g, a, self.site.c, cn),
             Move::Swap(code as u8),
@@ -160,21 +150,15 @@ impl<'a> Weighed<'a> {
     }
 
     // The best swap: neighbours by code, each at its place.
+    // Kept: gaps by code: by `zip` of both it is proved too, and that proof is longer than the index is.
     #[tactic(auto, using(base::proofs::LoopLaws::up_to_none, base::proofs::LoopLaws::up_to_more), unfolding(crate::specs::Fast::swaps_by))]
-    fn best_swap(
-        self,
-        cpe: &[f64],
-        indices: &[Index],
-        tab: Tables,
-        places: &[usize; 8],
-        b: Best,
-    ) -> Best
-        requires { AllFit cpe.now indices.now self.inks.now places.now }
-        ensures { result ≡ swaps_by self.entry.inks.now cpe.now indices.now tab places.now self.entry.site 8 b }
+    fn best_swap(self, tab: Tables, places: &[usize; 8], b: Best) -> Best
+        requires { AllFit self.cpe.now self.indices.now self.inks.now places.now }
+        ensures { result ≡ swaps_by self.entry.inks.now self.entry.cpe.now self.entry.indices.now tab places.now self.entry.site 8 b }
     {
         let mut best = b;
         for (code, place) in places.iter().enumerate() {
-            best = self.swap_at(cpe, indices, tab.gaps[code], *place, code, best);
+            best = self.swap_at(tab.gaps[code], *place, code, best);
         }
         best
     }
@@ -189,14 +173,15 @@ pub fn evaluate(cpe: &[f64], indices: &[Index], s: Tabled<'_>, x: usize, y: usiz
     ensures { result ≡ evaluate_of (shared_of s.entry.setup) s.entry.tab.w cpe.now indices.now x y no_move }
 {
     let Tabled { setup, tab } = s;
-    let w = tab.w;
-    let t = setup.tiling;
-    let k = index_at(indices, w, x, y);
-    let pixel = Weighed {
+    let pixel = Pixel { w: tab.w, x, y };
+    let k = index_at(indices, pixel);
+    let weighed = Weighed {
+        cpe,
+        indices,
         inks: setup.inks,
         site: Site {
             k,
-            c: cpe_at(cpe, w, x, y),
+            c: cpe_at(cpe, pixel),
         },
         ink: color::values_at(setup.inks, 3 * k),
     };
@@ -204,13 +189,13 @@ pub fn evaluate(cpe: &[f64], indices: &[Index], s: Tabled<'_>, x: usize, y: usiz
         cost: -1e-9,
         mv: Move::Stay,
     };
-    let toggled = pixel.best_toggle(tab.centre, start);
+    let toggled = weighed.best_toggle(tab.centre, start);
     let around = Around {
         pinned: setup.pinned,
-        tiling: t,
+        tiling: setup.tiling,
         tab,
-        spot: places::spot_of(t, w, x, y),
+        spot: places::spot_of(setup.tiling, pixel),
     };
     let places = around.places();
-    pixel.best_swap(cpe, indices, tab, &places, toggled)
+    weighed.best_swap(tab, &places, toggled)
 }

@@ -2,8 +2,8 @@
 // allowed and the buffers lent, which are held to these sizes.
 #![tactic(auto)]
 
-ghost use Rattle.std.specs.Prelude.{◌≡◌, [], ◌∷◌, length};
-ghost use Rattle.base.specs.Refusal.{judge};
+ghost use Rattle.std.specs.Prelude.{◌≡◌, [], ◌∷◌, length, IfOk};
+ghost use Rattle.base.specs.Refusal.{judge, accepted};
 ghost use Rattle.base.specs.Limits.{cpp_length};
 ghost use Rattle.base.specs.Answer.{status_of, Tested};
 ghost use Rattle.input.specs.Input.{input_tests, run_tests, refine_run_tests, open_run_tests, find_run_tests, refine_tests, open_tests, find_tests, length_test};
@@ -43,137 +43,138 @@ fn check_sizes(given: Input<'_>) -> Result<Sizes, Refusal>
     })
 }
 
-// Refusal 11 of buffers 1 and 2.
-// Kept: each call lends other buffers, so that a struct of those lent would be one for each call, made where they are named anyway.
-#[tactic(auto, unfolding(base::specs::Refusal::judge))]
-fn check_field(s: Sizes, cpe: &[f64], cpp: &[f64]) -> Result<(), Refusal>
-    ensures { status_of result ≡ judge (length_test 1 (length cpe.now) s.field ∷ length_test 2 (length cpp.now) cpp_length ∷ []) }
-{
-    check_length(Buffer::Cpe, cpe.len(), s.field)?;
-    check_length(Buffer::Cpp, cpp.len(), CPP_LEN)
+// The buffers that all three calls are lent, whose lengths are tested.
+#[derive(Clone, Copy)]
+pub struct Lent<'a> {
+    pub cpe: &'a [f64],
+    pub cpp: &'a [f64],
+    pub inks: &'a [f64],
 }
 
-// Refusal 10, and 11 of buffers 1 to 3.
-#[tactic(auto, unfolding(input::specs::Input::run_tests, base::specs::Refusal::judge))]
-fn check_run(
-    s: Sizes,
-    max_passes: u64,
-    cpe: &[f64],
-    cpp: &[f64],
-    accepted_per_pass: &[u32],
-) -> Result<(), Refusal>
-    ensures { status_of result ≡ judge (run_tests max_passes s.field (length cpe.now) (length cpp.now) (length accepted_per_pass.now)) }
-{
-    refuse_if(max_passes > MAX_PASSES as u64, Refusal::Passes)?;
-    check_field(s, cpe, cpp)?;
-    check_length(
-        Buffer::AcceptedPerPass,
-        accepted_per_pass.len(),
-        max_passes as usize,
-    )
+// The passes allowed, with the counts lent for them.
+#[derive(Clone, Copy)]
+pub struct Passes<'a> {
+    pub allowed: u64,
+    pub counts: &'a [u32],
 }
 
-// Refusals 10 and 11 of refine, of an input of these sizes.
-#[tactic(auto, unfolding(input::specs::Input::refine_run_tests, input::specs::Input::run_tests, base::specs::Refusal::judge))]
-fn check_refine_run(
-    s: Sizes,
-    max_passes: u64,
-    cpe: &[f64],
-    cpp: &[f64],
-    accepted_per_pass: &[u32],
-    inks: &[f64],
-) -> Result<(), Refusal>
-    ensures { status_of result ≡ judge (refine_run_tests max_passes s.field s.values (length cpe.now) (length cpp.now) (length accepted_per_pass.now) (length inks.now)) }
-{
-    check_run(s, max_passes, cpe, cpp, accepted_per_pass)?;
-    check_length(Buffer::Inks, inks.len(), s.values)
+// An input that no test refuses, with its tiling.
+#[derive(Clone, Copy)]
+pub struct Accepted<'a> {
+    pub given: Input<'a>,
+    pub tiling: Tiling,
+    pub ghost passes: { judge (input_tests (input_of given)) ≡ accepted },
+    pub ghost tiled: { tiling ≡ tiling_of (input_of given) },
 }
 
-// Refusal 11 of find_move, of an input of these sizes; it is given no passes and no counts.
-#[tactic(auto, unfolding(input::specs::Input::find_run_tests, base::specs::Refusal::judge))]
-fn check_find_run(s: Sizes, cpe: &[f64], cpp: &[f64], inks: &[f64]) -> Result<(), Refusal>
-    ensures { status_of result ≡ judge (find_run_tests s.field s.values (length cpe.now) (length cpp.now) (length inks.now)) }
-{
-    check_field(s, cpe, cpp)?;
-    check_length(Buffer::Inks, inks.len(), s.values)
+impl Sizes {
+    // Refusal 11 of buffers 1 and 2.
+    #[tactic(auto, unfolding(base::specs::Refusal::judge))]
+    fn check_field(self, lent: Lent<'_>) -> Result<(), Refusal>
+        ensures { status_of result ≡ judge (length_test 1 (length lent.entry.cpe.now) self.field ∷ length_test 2 (length lent.entry.cpp.now) cpp_length ∷ []) }
+    {
+        check_length(Buffer::Cpe, lent.cpe.len(), self.field)?;
+        check_length(Buffer::Cpp, lent.cpp.len(), CPP_LEN)
+    }
+
+    // Refusal 10, and 11 of buffers 1 to 3.
+    #[tactic(auto, unfolding(input::specs::Input::run_tests, base::specs::Refusal::judge))]
+    fn check_run(self, passes: Passes<'_>, lent: Lent<'_>) -> Result<(), Refusal>
+        ensures { status_of result ≡ judge (run_tests passes.entry.allowed self.field (length lent.entry.cpe.now) (length lent.entry.cpp.now) (length passes.entry.counts.now)) }
+    {
+        refuse_if(passes.allowed > MAX_PASSES as u64, Refusal::Passes)?;
+        self.check_field(lent)?;
+        check_length(
+            Buffer::AcceptedPerPass,
+            passes.counts.len(),
+            passes.allowed as usize,
+        )
+    }
+
+    // Refusals 10 and 11 of refine.
+    #[tactic(auto, unfolding(input::specs::Input::refine_run_tests, input::specs::Input::run_tests, base::specs::Refusal::judge))]
+    fn check_refine_run(self, passes: Passes<'_>, lent: Lent<'_>) -> Result<(), Refusal>
+        ensures { status_of result ≡ judge (refine_run_tests passes.entry.allowed self.field self.values (length lent.entry.cpe.now) (length lent.entry.cpp.now) (length passes.entry.counts.now) (length lent.entry.inks.now)) }
+    {
+        self.check_run(passes, lent)?;
+        check_length(Buffer::Inks, lent.inks.len(), self.values)
+    }
+
+    // Refusal 11 of find_move, which is given no passes and no counts.
+    #[tactic(auto, unfolding(input::specs::Input::find_run_tests, base::specs::Refusal::judge))]
+    fn check_find_run(self, lent: Lent<'_>) -> Result<(), Refusal>
+        ensures { status_of result ≡ judge (find_run_tests self.field self.values (length lent.entry.cpe.now) (length lent.entry.cpp.now) (length lent.entry.inks.now)) }
+    {
+        self.check_field(lent)?;
+        check_length(Buffer::Inks, lent.inks.len(), self.values)
+    }
+
+    // Refusals 10 and 11 of open.
+    #[tactic(auto, unfolding(input::specs::Input::open_run_tests, input::specs::Input::run_tests, base::specs::Refusal::judge))]
+    fn check_open_run(
+        self,
+        passes: Passes<'_>,
+        lent: Lent<'_>,
+        tile_states: &[u8],
+        deltas: &[f64],
+    ) -> Result<(), Refusal>
+        ensures { status_of result ≡ judge (open_run_tests passes.entry.allowed self.field self.values self.tiles (length lent.entry.cpe.now) (length lent.entry.cpp.now) (length passes.entry.counts.now) (length tile_states.now) (length deltas.now) (length lent.entry.inks.now)) }
+    {
+        self.check_run(passes, lent)?;
+        check_length(Buffer::TileStates, tile_states.len(), self.tiles)?;
+        check_length(Buffer::Deltas, deltas.len(), self.tiles)?;
+        check_length(Buffer::Inks, lent.inks.len(), self.values)
+    }
 }
 
-// Refusals 10 and 11 of open, of an input of these sizes.
-#[tactic(auto, unfolding(input::specs::Input::open_run_tests, input::specs::Input::run_tests, base::specs::Refusal::judge))]
-fn check_open_run(
-    s: Sizes,
-    max_passes: u64,
-    cpe: &[f64],
-    cpp: &[f64],
-    accepted_per_pass: &[u32],
-    tile_states: &[u8],
-    deltas: &[f64],
-    inks: &[f64],
-) -> Result<(), Refusal>
-    ensures { status_of result ≡ judge (open_run_tests max_passes s.field s.values s.tiles (length cpe.now) (length cpp.now) (length accepted_per_pass.now) (length tile_states.now) (length deltas.now) (length inks.now)) }
-{
-    check_run(s, max_passes, cpe, cpp, accepted_per_pass)?;
-    check_length(Buffer::TileStates, tile_states.len(), s.tiles)?;
-    check_length(Buffer::Deltas, deltas.len(), s.tiles)?;
-    check_length(Buffer::Inks, inks.len(), s.values)
-}
-
-// All refusals of refine, and the tiling where none applies.
+// All refusals of refine, and the input with its tiling where none applies.
 #[tactic(auto, using(crate::proofs::Laws::refused_at, crate::proofs::Laws::told_by, crate::proofs::Laws::tiling_is), unfolding(input::specs::Input::refine_tests, crate::specs::Sizes::sizes_of))]
-pub fn check_refine(
-    given: Input<'_>,
-    max_passes: u64,
-    cpe: &[f64],
-    cpp: &[f64],
-    accepted_per_pass: &[u32],
-    inks: &[f64],
-) -> Result<Tiling, Refusal>
-    ensures { Tested result (refine_tests (input_of given.entry) max_passes (length cpe.now) (length cpp.now) (length accepted_per_pass.now) (length inks.now)) (tiling_of (input_of given.entry)) }
+pub fn check_refine<'a>(
+    given: Input<'a>,
+    passes: Passes<'_>,
+    lent: Lent<'_>,
+) -> Result<Accepted<'a>, Refusal>
+    ensures tested { status_of result ≡ judge (refine_tests (input_of given.entry) passes.entry.allowed (length lent.entry.cpe.now) (length lent.entry.cpp.now) (length passes.entry.counts.now) (length lent.entry.inks.now)) }
+    ensures same { IfOk result (λ a. input_of a.given ≡ input_of given.entry) }
 {
     let s = check_sizes(given)?;
-    check_refine_run(s, max_passes, cpe, cpp, accepted_per_pass, inks)?;
-    Ok(s.tiling)
+    s.check_refine_run(passes, lent)?;
+    Ok(Accepted {
+        given,
+        tiling: s.tiling,
+    })
 }
 
-// All refusals of find_move, and the tiling where none applies.
+// All refusals of find_move, and the input with its tiling where none applies.
 #[tactic(auto, using(crate::proofs::Laws::refused_at, crate::proofs::Laws::told_by, crate::proofs::Laws::tiling_is), unfolding(input::specs::Input::find_tests, crate::specs::Sizes::sizes_of))]
-pub fn check_find(
-    given: Input<'_>,
-    cpe: &[f64],
-    cpp: &[f64],
-    inks: &[f64],
-) -> Result<Tiling, Refusal>
-    ensures { Tested result (find_tests (input_of given.entry) (length cpe.now) (length cpp.now) (length inks.now)) (tiling_of (input_of given.entry)) }
+pub fn check_find<'a>(given: Input<'a>, lent: Lent<'_>) -> Result<Accepted<'a>, Refusal>
+    ensures tested { status_of result ≡ judge (find_tests (input_of given.entry) (length lent.entry.cpe.now) (length lent.entry.cpp.now) (length lent.entry.inks.now)) }
+    ensures same { IfOk result (λ a. input_of a.given ≡ input_of given.entry) }
 {
     let found = check_sizes(given)?;
-    check_find_run(found, cpe, cpp, inks)?;
-    Ok(found.tiling)
+    found.check_find_run(lent)?;
+    Ok(Accepted {
+        given,
+        tiling: found.tiling,
+    })
 }
 
-// All refusals of open, and the tiling where none applies.
+// All refusals of open, and the input with its tiling where none applies.
 #[tactic(auto, using(crate::proofs::Laws::refused_at, crate::proofs::Laws::told_by, crate::proofs::Laws::tiling_is), unfolding(input::specs::Input::open_tests, crate::specs::Sizes::sizes_of))]
-pub fn check_open(
-    given: Input<'_>,
-    max_passes: u64,
-    cpe: &[f64],
-    cpp: &[f64],
-    accepted_per_pass: &[u32],
+pub fn check_open<'a>(
+    given: Input<'a>,
+    passes: Passes<'_>,
+    lent: Lent<'_>,
     tile_states: &[u8],
     deltas: &[f64],
-    inks: &[f64],
-) -> Result<Tiling, Refusal>
-    ensures { Tested result (open_tests (input_of given.entry) max_passes (tiles (tiling_of (input_of given.entry))) (length cpe.now) (length cpp.now) (length accepted_per_pass.now) (length tile_states.now) (length deltas.now) (length inks.now)) (tiling_of (input_of given.entry)) }
+) -> Result<Accepted<'a>, Refusal>
+    ensures tested { status_of result ≡ judge (open_tests (input_of given.entry) passes.entry.allowed (tiles (tiling_of (input_of given.entry))) (length lent.entry.cpe.now) (length lent.entry.cpp.now) (length passes.entry.counts.now) (length tile_states.now) (length deltas.now) (length lent.entry.inks.now)) }
+    ensures same { IfOk result (λ a. input_of a.given ≡ input_of given.entry) }
 {
     let s = check_sizes(given)?;
-    check_open_run(
-        s,
-        max_passes,
-        cpe,
-        cpp,
-        accepted_per_pass,
-        tile_states,
-        deltas,
-        inks,
-    )?;
-    Ok(s.tiling)
+    s.check_open_run(passes, lent, tile_states, deltas)?;
+    Ok(Accepted {
+        given,
+        tiling: s.tiling,
+    })
 }

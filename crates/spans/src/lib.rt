@@ -42,6 +42,8 @@ fn add_at(cpe: &mut [f64], j: usize, channels: Channels, a: YyCxCz, v: f64)
 }
 
 // The pixels of a span grow.
+// Kept: `Fits` in three contracts: a struct of a span and both lists with it as a ghost field would be made anew for each row and, as `cpe`
+// is written, be lent as `&mut`, so that each contract would say instead that it still has the same list and span: it is no plainer.
 #[tactic(auto, using(base::proofs::LoopLaws::up_to_none, base::proofs::LoopLaws::up_to_more), unfolding(crate::specs::Spans::add_pixels))]
 pub fn add_span(cpe: &mut [f64], cpp: &[f64], channels: Channels, s: Span)
     requires { Fits (length cpe.old) (length cpp.now) s }
@@ -55,7 +57,8 @@ pub fn add_span(cpe: &mut [f64], cpp: &[f64], channels: Channels, s: Span)
 }
 
 // The same where it is one pixel wide, or empty.
-// Kept: with `add_span` in its place a swap of small kernels takes a quarter longer.
+// Kept: with `add_span` in its place `add_both` takes 1.153 of the instructions at 40 per inch and 1.094 at 127, and three passes 1.078
+// and 1.052.
 #[tactic(auto, using(crate::proofs::Laws::span_one, crate::proofs::Laws::span_none))]
 pub fn add_pixel(cpe: &mut [f64], cpp: &[f64], channels: Channels, s: Span)
     requires fits { Fits (length cpe.old) (length cpp.now) s }
@@ -80,6 +83,8 @@ pub fn add_spans(cpe: &mut [f64], cpp: &[f64], channels: Channels, s: Span, o: S
     let row = &mut cpe[s.at..s.at + 3 * s.pixels];
     let kernel = &cpp[s.from..s.from + s.pixels];
     let other = &cpp[o.from..o.from + s.pixels];
+    // Kept: by `zip` with the other's values it is proved too, and `add_both` then takes 1.053 of the instructions at 127 per inch and
+    // 1.027 at 40.
     for (i, v) in kernel.iter().enumerate() {
         // Read before the row is written, so that each value is stored once.
         let u = other[i];

@@ -15,8 +15,7 @@ use Rattle.tiling.specs.Tiling.{tiles}
 use Rattle.input.specs.Input.{ink_count}
 use Rattle.input.specs.Valid.{ValidOpen}
 use Rattle.input.proofs.Validity.{open_passes}
-use Rattle.prepare.specs.Prepare.{ReadyToPrepare, Prepared, tiling_of}
-use Rattle.prepare.proofs.Laws.{ready_to_prepare}
+use Rattle.prepare.specs.Prepare.{RoomFor, Prepared, tiling_of}
 use Rattle.job.specs.Record.{plan, job_record}
 use Rattle.job.specs.Open.{Opening, opened, open_tests_of, first_record, zero_record, open_of}
 use Rattle.job.proofs.Answers.{open_answers}
@@ -31,10 +30,8 @@ module _ (O : Opening) (T : Tiling) (ok : accepted ≡ judge (open_tests_of O)) 
   unfolding open_tests_of
   valid_open = (open_passes _ _ _ _ _ _ _ _ _).0 ((open_answers O).passed accepted ok refl)
 
-  pub ready : ReadyToPrepare O.input T (length O.inks) (length O.cpp) (length O.cpe)
-  ready =
-      let v = valid_open.refine in
-      ready_to_prepare O.input T (length O.cpe) (length O.cpp) (length O.inks) q v.valid v.cpe_length v.cpp_len v.inks_length
+  pub room : RoomFor O.input (length O.inks) (length O.cpp) (length O.cpe)
+  room = let v = valid_open.refine in record { inks_length = v.inks_length; cpp_len = v.cpp_len; cpe_length = v.cpe_length }
 
   pub opens_as : (inks cpp cpe : List Float) (error : Float) (states : List ℕ) (deltas : List Float) →
       Prepared O.input O.cpp inks cpp cpe error → states ≡ replicate (length O.states) 0 → deltas ≡ replicate (length O.deltas) f0 →

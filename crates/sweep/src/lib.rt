@@ -31,7 +31,10 @@ pub struct Cut {
 }
 
 // A kernel of the store, cut, with the channels that it is for.
-// Kept: no `Stored`, which is a store with a kernel: the kernel stands in the cut, which asks for no store, and would stand here twice.
+// Kept: a `Stored` and the window in the place of store and cut are no plainer: each of the eight calls by `cut`, five of them in the loops
+// over rows, would make it again of the two.
+// Kept: the length of `cpe` in a clause of what it adds, here and in both: a struct with it as a ghost field would be lent as `&mut`, and
+// each contract would say instead that it still has the same list and window.
 #[derive(Clone, Copy)]
 pub struct Brush<'a> {
     pub cpp: &'a [f64],
@@ -96,6 +99,7 @@ impl<'a> Brush<'a> {
         requires { KernelFits (kernel_for channels t) cpp.now }
         ensures { (result.cpp.now ≡ cpp.now) × (result.cut.kernel ≡ kernel_for channels t) × (result.cut.window ≡ w) × (result.channels ≡ channels) }
     {
+        // Kept: a match over an enum, as each of the two is a call of its own.
         let kernel = match channels {
             Channels::Luminance => cpp::lum_kernel(t),
             Channels::Chrominance => cpp::chroma_kernel(t),

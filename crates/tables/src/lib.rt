@@ -34,6 +34,8 @@ pub struct Tables {
 }
 
 // The kernel's value next to its centre. A kernel of radius 1 or more has all eight.
+// Kept: `code < 8` in a clause, here and in `besides`: `neighbour` has document 01's codes as numbers, of which it takes any, so that a type
+// of those below 8 would be made of the number that `from_fn` counts with and read as it again.
 #[tactic(auto, using(crate::proofs::AllEight::centre_found), unfolding(cost::specs::Cost::beside_of))]
 fn beside(k: Stored<'_>, code: u8) -> f64
     requires { (1 ≤ k.kernel.radius) × (code < 8) }
@@ -103,6 +105,7 @@ impl<'a> Kernels<'a> {
 }
 
 // How many pixels of the window lie from the one above and left of a pixel to its neighbour by this code.
+// Kept: the limit of the window's side in a clause, here and in `steps_of`: a type for it would be made of a `Rect` at each call: no plainer.
 #[tactic(auto, unfolding(crate::specs::Tables::step_of))]
 fn step_of(w: Rect, code: u8) -> usize
     requires { (w.x1 ≤ max_side) × (w.x0 ≤ w.x1) }

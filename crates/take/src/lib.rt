@@ -10,9 +10,10 @@ ghost use Rattle.job.specs.Take.{taken, take_of};
 
 use base::{Index, Refusal};
 use job::{JobRecord, TileState};
-use tiling::Tiles;
 
 // Copy a tile's region out and mark the tile out.
+// Kept: the lent buffers apart, as the host has them: a struct of `&mut`s would be made of them at each call, and its contract say of each
+// that it still is the host's (`ghost_name`).
 fn take(
     r: JobRecord,
     tile: u64,
@@ -24,18 +25,15 @@ fn take(
 ) -> Result<(), Refusal>
     ensures { taken (status_of result) r tile_states.new (pixels copy_cpe.new copy_indices.new) ≡ take_of r tile (pixels cpe.now indices.now) tile_states.old (pixels copy_cpe.old copy_indices.old) }
 {
-    taketests::check_take(r, tile, indices, cpe, tile_states, copy_cpe, copy_indices)?;
-    let plan = r.plan;
-    let t = Tiles {
-        tiling: plan.tiling,
-    };
+    let job = taketests::check_take(r, tile, indices, cpe, tile_states, copy_cpe, copy_indices)?;
     let i = tile as usize;
-    regions::copy_region(t, i, indices, cpe, copy_cpe, copy_indices);
+    regions::copy_region(job.tiles(), i, indices, cpe, copy_cpe, copy_indices);
     tile_states[i] = u8::from(TileState::Out);
     Ok(())
 }
 
 // The same on the run that the record is for a C host, which is only read.
+// Kept: it and the other calls on a run are two to four lines each, which differ in the call and its buffers: no plainer as one.
 #[tactic(auto, using(words::proofs::RunLaws::unread, words::proofs::RunLaws::read), unfolding(job::specs::Boundary::take_run))]
 pub fn take_run(
     record: &[u64],

@@ -1,14 +1,15 @@
 -- Taps added to a part of a row of sums: which sums a tap reaches, one tap, four taps. Assumes nothing.
-use Prim.Native.Nat.{ℕ, zero, suc, ◌+◌, ◌-◌, ◌≤◌, ◌<◌, min, max}
+use Prim.Native.Nat.{ℕ, zero, suc, ◌+◌, ◌-◌, ◌*◌, ◌≤◌, ◌<◌, min, max}
 use native.Mathlib.Numerals.{add-one}
 use native.Mathlib.Omega.{arith}
-use mathlib.Core.Path.{◌≡◌, refl, sym, ap, ◌∙◌}
-use mathlib.Core.List.{List, [], ◌∷◌}
+use mathlib.Core.Path.{◌≡◌, sym, ap, ◌∙◌}
+use mathlib.Core.List.{List, []}
 use mathlib.Core.Logic.{⊎_elim}
-use lib.ListN.{length}
-use lib.Seq.{get_or-take, get_or-drop}
+use lib.ListN.{length, get_or, drop, length-drop}
+use lib.Seq.{length-take-le, get_or-take, get_or-drop}
 use lib.Ieee.{Float, nan}
 use borrow.Rule.Slice.PartMut.{put_mid, mid_of, mid_len}
+use Rattle.std.specs.Simd.{first_chunks}
 use Rattle.base.specs.Loop.{up_to, table}
 use Rattle.base.specs.F64.{◌+f◌, ◌*f◌}
 use Rattle.base.proofs.Bounds.{lt_or_ge}
@@ -27,13 +28,18 @@ pub few_done : (sums values few : List Float) (i n : ℕ) (v : Float) → v ≡ 
 unfolding few_taps
 few_done sums values few i n v e all = rw (e, all)
 
--- four taps side by side
-pub side_by_side : (taps : List Float) (d q : ℕ) → q < 4 → at (at taps d ∷ at taps (d + 1) ∷ at taps (d + 2) ∷ at taps (d + 3) ∷ []) q ≡ at taps (d + q)
-side_by_side taps d zero h = let e : d + 0 ≡ d = omega arith in rw e
-side_by_side taps d (suc zero) h = refl
-side_by_side taps d (suc (suc zero)) h = refl
-side_by_side taps d (suc (suc (suc zero))) h = refl
-side_by_side taps d (suc (suc (suc (suc q)))) h = absurd (omega arith)
+-- four taps side by side, of n fours that are read from a row of taps
+pub side_by_side : (taps : List Float) (n q : ℕ) → q < n → (j : ℕ) → j < 4 → at (get_or (first_chunks 4 n taps) q []) j ≡ at taps (4 * q + j)
+side_by_side taps zero q h j k = absurd (omega (arith, h))
+side_by_side taps (suc n) zero h j k = let e : 4 * 0 + j ≡ j = omega arith in rw e (get_or-take 4 taps j nan k)
+side_by_side taps (suc n) (suc q) h j k =
+    let e : 4 + (4 * q + j) ≡ 4 * suc q + j = omega arith in
+    side_by_side (drop 4 taps) n q (omega (arith, h)) j k ∙ get_or-drop 4 taps (4 * q + j) nan ∙ ap (at taps) e
+
+pub four_long : (taps : List Float) (n q : ℕ) → q < n → 4 * n ≤ length taps → length (get_or (first_chunks 4 n taps) q []) ≡ 4
+four_long taps zero q h k = absurd (omega (arith, h))
+four_long taps (suc n) zero h k = length-take-le 4 taps (omega (arith, k))
+four_long taps (suc n) (suc q) h k = four_long (drop 4 taps) n q (omega (arith, h)) (let e = length-drop 4 taps in omega (arith, e, k))
 
 -- ---- the sums from a to b - 1 that tap d reaches: those from lo to hi - 1
 

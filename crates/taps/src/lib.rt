@@ -22,8 +22,8 @@ fn add_taps<const N: usize>(sums: &mut [f64], values: &[f64], taps: [f64; N])
 {
     for (i, sum) in sums.iter_mut().enumerate() {
         let mut s = *sum;
-        for (d, tap) in taps.iter().enumerate() {
-            s = s + *tap * values[i + d];
+        for (tap, value) in taps.iter().zip(&values[i..i + N]) {
+            s = s + *tap * *value;
         }
         *sum = s;
     }
@@ -69,23 +69,12 @@ impl<'a> Row<'a> {
         ensures upper_bound { result ≤ length self.entry.taps.now }
         ensures changed { Changed a b (λ i. row_sum self.entry i 0 result) sums.old sums.new }
     {
-        let fours = self.taps.len() / 4;
-        // Kept: `chunks_exact(4)` would still be counted by q, which says where the values stand.
-        for q in 0..fours {
-            let d = 4 * q;
-            let from = a + d - self.lead;
-            let to = b + d + 3 - self.lead;
-            add_taps(
-                &mut sums[a..b],
-                &self.values[from..to],
-                [
-                    self.taps[d],
-                    self.taps[d + 1],
-                    self.taps[d + 2],
-                    self.taps[d + 3],
-                ],
-            );
+        let fours = self.taps.as_chunks::<4>().0;
+        for (q, four) in fours.iter().enumerate() {
+            let from = a + 4 * q - self.lead;
+            let to = b + 4 * q + 3 - self.lead;
+            add_taps(&mut sums[a..b], &self.values[from..to], *four);
         }
-        4 * fours
+        4 * fours.len()
     }
 }

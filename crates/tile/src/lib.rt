@@ -13,7 +13,8 @@ use progress::Progress;
 use search::{Setup, Tabled};
 
 // One pixel: its best move, unless it is pinned.
-// Kept: `cpe` and `indices` go apart, as the host lends them: a struct of two `&mut` would be made anew at each call.
+// Kept: `cpe` and `indices` apart: as one struct lent as `&mut`, tried, each contract says of both fields too that they still are the
+// caller's (`ghost_name`), or the caller learns nothing of them, and each loop keeps it: no plainer.
 #[tactic(auto, using(crate::proofs::Walked::best_names), unfolding(crate::specs::Tile::visit_of, crate::specs::Tile::applied))]
 fn visit(
     cpe: &mut [f64],
@@ -37,10 +38,11 @@ fn visit(
     }
     let best = search::evaluate(cpe, indices, s, x, y);
     moves::apply_move(cpe, indices, s.setup, s.tab.w, x, y, best.mv);
-    p.count_move(best.cost, best.mv)
+    p.count_move(best)
 }
 
 // Row y of the tile q.
+// Kept: `Covers` in three contracts: it is of the tile and the window of the tables. A struct of both would be made for these three alone.
 #[tactic(auto, unfolding(crate::specs::Tile::refine_row))]
 fn refine_row(
     cpe: &mut [f64],

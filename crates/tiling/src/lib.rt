@@ -98,6 +98,8 @@ impl Tiles {
     }
 
     // The pixels of a tile.
+    // Kept: `tile < tiles` in a clause, here and in records, regions and phases: a tile is document 01's number, of which `is_in_phase` and
+    // the tests take any; a type of those of the image would be made of the number at each call and read as it again: no plainer.
     pub fn tile_rect(self, tile: usize) -> Rect
         requires { tile < spec.tiles self.tiling }
         ensures { result ≡ spec.tile self.tiling tile }

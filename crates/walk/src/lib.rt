@@ -19,7 +19,8 @@ pub struct Outcome {
 }
 
 // The four phases of a pass, from no moves accepted.
-// Kept: `cpe` and `indices` go apart, as the host lends them: a struct of two `&mut` would be made anew at each call.
+// Kept: `cpe` and `indices` apart: as one struct lent as `&mut`, tried, each contract says of both fields too that they still are the
+// caller's (`ghost_name`), or the caller learns nothing of them, and each loop keeps it: no plainer.
 fn walk_pass(cpe: &mut [f64], indices: &mut [Index], s: Setup<'_>, error: f64) -> Run
     requires { Ready (shared_of s) (image s.tiling) (length cpe.old) indices.old }
     ensures result_after { refined cpe.new indices.new result ≡ pass_of (shared_of s.entry) (refined cpe.old indices.old (record { error = error; accepted = 0 })) }

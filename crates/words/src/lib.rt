@@ -11,7 +11,8 @@ use job::{JobRecord, Plan};
 use tiling::Tiling;
 
 // Numbers in a run.
-// Kept: a run stays a slice, whose length is one of the tests of `read`; as an array each of the three calls that write it would test its length once more.
+// Kept: a run stays a slice: as an array, by `as_mut_array`, each of the six calls on a run would first make it of the slice, a line and
+// a refusal apart from the other tests of `read`, in the place of one clause of three functions: no plainer.
 pub const RECORD_LEN: usize = 12;
 
 // Refusal 12 of a run's length.

@@ -16,10 +16,9 @@ use base::{Index, Refusal, Status};
 use job::JobRecord;
 use progress::Progress;
 use search::Setup;
-use tiling::Tiles;
 
 // Moves accepted and the sum of their costs, or a refusal with zeros.
-// Kept: C reads number and place here, so that it is no `Result`.
+// Kept: C reads number and place here by their names, so that it is no `Result` and holds no `Status`.
 #[repr(C)]
 #[derive(Clone, Copy, Default)]
 pub struct DbsWorked {
@@ -63,11 +62,8 @@ fn work(
 ) -> Result<Progress, Refusal>
     ensures { worked (status_of result) (state copy_cpe.new copy_indices.new (result_unwrap_or result no_progress)) ≡ work_of r tile pinned.now cpp.now (pixels copy_cpe.old copy_indices.old) inks.now }
 {
-    worktests::check_work(r, tile, pinned, cpp, copy_cpe, copy_indices, inks)?;
-    let plan = r.plan;
-    let t = Tiles {
-        tiling: plan.tiling,
-    };
+    let job = worktests::check_work(r, tile, pinned, cpp, copy_cpe, copy_indices, inks)?;
+    let t = job.tiles();
     let region = t.region_rect(tile as usize);
     let rect = t.tile_rect(tile as usize);
     let setup = Setup {
@@ -80,6 +76,7 @@ fn work(
 }
 
 // The same on the run that the record is for a C host, which is only read.
+// Kept: as `take_run` it and the other calls on a run are two to four lines each, which differ in the call and its buffers: no plainer as one.
 #[tactic(auto, using(words::proofs::RunLaws::unread, words::proofs::RunLaws::read), unfolding(job::specs::Boundary::work_run))]
 pub fn work_run(
     record: &[u64],

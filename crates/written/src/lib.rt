@@ -18,6 +18,7 @@ fn word_over(old: u64, x: f64) -> u64
 }
 
 // A record with the words of its errors.
+// Kept: the run's length in a clause, here and in what follows: words has why a run stays a slice.
 fn write_words(words: &mut [u64], r: JobRecord, initial: u64, error: u64)
     requires { length words.old ≡ run_length }
     ensures { words.new ≡ words_with initial error r }

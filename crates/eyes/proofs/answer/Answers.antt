@@ -1,4 +1,4 @@
--- What `kernels` requires: an eye that `validate` answers is accepted, and its radii are those of kernels that fit.
+-- An eye that `validate` answers is accepted, and its radii are those of kernels that fit. Assumes nothing.
 use Rattle.std.proofs.Common.{◌≡◌, sym, rules}
 use Rattle.base.specs.Refusal.{judge, accepted}
 use Rattle.eye.specs.declared.DbsParams.{DbsParams}
@@ -11,8 +11,8 @@ both_fit : (p : DbsParams) (e : Eye) → e ≡ eye_of p → judge (eye_tests p) 
 unfolding eye_of
 both_fit p e v ok = rw v (radii_fit p ok)
 
-pub kernels-sum-requires-clause-params_value : goal.kernels-sum-requires-clause-params_value
-kernels-sum-requires-clause-params_value g c = sym c.in-Ok.ensures.0
+pub eye_kernels-requires : goal.eye_kernels-requires
+eye_kernels-requires g c = (sym c.in-Ok.ensures.0, search rules)
 
-pub kernels-sum-requires-clause-kernel_radius : goal.kernels-sum-requires-clause-kernel_radius
-kernels-sum-requires-clause-kernel_radius g c = both_fit c.args.params _ c.in-Ok.ensures.1 (sym c.in-Ok.ensures.0)
+pub kernels-sum-requires : goal.kernels-sum-requires
+kernels-sum-requires g c = both_fit c.args.params _ c.in-Ok.ensures.1 (sym c.in-Ok.ensures.0)

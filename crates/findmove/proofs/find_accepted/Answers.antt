@@ -8,14 +8,14 @@ use Rattle.findmove.proofs.find_accepted.Goals as goal
 
 -- the input
 abbrev I : Start → Input
-I s = input_of s.args.given
+I s = input_of s.args.a.given
 
 pub first_in_pass-requires : goal.first_in_pass-requires
 first_in_pass-requires c =
     let s = (goal.at.first_in_pass-requires c).Start in
-    built_ready (I s) c.args.t _ c.args.cpp.now _ _ c.requires.tiling c.build.ensures c.requires.passes c.requires.cpp_len
+    built_ready (I s) c.args.a.tiling _ c.args.cpp.now _ _ c.args.a.tiled c.build.ensures c.args.a.passes c.requires.cpp_len
 
 pub returns : goal.returns
 returns c =
     let s = (goal.at.returns c).Start in
-    searches_as (I s) c.args.t _ c.args.cpp.now _ _ c.first_in_pass.result c.requires.tiling c.build.ensures c.requires.passes c.first_in_pass.ensures
+    searches_as (I s) c.args.a.tiling _ c.args.cpp.now _ _ c.first_in_pass.result c.args.a.tiled c.build.ensures c.args.a.passes c.first_in_pass.ensures

@@ -13,9 +13,10 @@ pub loop-i-preserved : goal.loop-i-preserved
 unfolding with_deltas
 loop-i-preserved c =
     let h = c.loop-i.invariant in
-    (omega (arith, c.loop-i-test.true, h.0, h.1), h.1, rw (c.add_delta-e.ensures, up_to_more, ← h.2))
+    (omega (arith, c.loop-i-test.true, h.0, h.1), h.1, rw (c.add_delta-error.ensures, up_to_more, ← h.2))
 
 pub returns : goal.returns
 returns c =
     let h = c.loop-i.invariant in
-    h.2 ∙ ap (λ n. with_deltas c.args.t.tiling c.args.phase c.args.deltas.now n c.args.error) (omega (arith, c.loop-i-test.false, h.0, h.1))
+    let r = c.args.job.record in
+    h.2 ∙ ap (λ n. with_deltas r.plan.tiling r.phase c.args.deltas.now n r.error) (omega (arith, c.loop-i-test.false, h.0, h.1))

@@ -16,7 +16,7 @@ pub loop-i-preserved : goal.loop-i-preserved
 loop-i-preserved c =
     let h = c.loop-i.invariant in
     let room : c.loop-i.i < length c.args.tile_states.now = omega (arith, c.loop-i-test.true, h.1) in
-    (omega (arith, room), refl, simp length-set h.2, fill_turn 0 _ _ _ _ _ room h.3 (c.released_state.ensures ∙ ap (λ b. cond (in_phase c.args.t.tiling c.args.phase c.loop-i.i) 0 b) (ap (λ l. get_or l c.loop-i.i 0) h.3 ∙ fill_rest 0 _ _ _)))
+    (omega (arith, room), refl, simp length-set h.2, fill_turn 0 _ _ _ _ _ room h.3 (c.released_state.ensures ∙ ap (λ b. cond (in_phase c.args.job.record.plan.tiling c.args.job.record.phase c.loop-i.i) 0 b) (ap (λ l. get_or l c.loop-i.i 0) h.3 ∙ fill_rest 0 _ _ _)))
 
 pub shape_of-tile_states : goal.shape_of-tile_states
 shape_of-tile_states c = c.loop-i.invariant.2

@@ -29,35 +29,32 @@ valid s e =
     (put_back_passes _ _ _ _ _ _).0
     ((put_back_answers s.args.r s.args.tile (image s) s.args.tile_states.now s.args.deltas.now (brought s)).passed accepted e refl)
 
-pub returns-in_err-check_put_back : goal.returns-in_err-check_put_back
-returns-in_err-check_put_back c =
-    let s = (goal.at.returns-in_err-check_put_back c).Start in
+pub returns-in_err-job : goal.returns-in_err-job
+returns-in_err-job c =
+    let s = (goal.at.returns-in_err-job c).Start in
     let p = err_from_is_err_and c.from_residual.result c.from_residual.ensures.1 in
-    rw (p.1, p.2) ((put_back_answers c.args.r c.args.tile (image s) c.args.tile_states.now c.args.deltas.now (brought s)).kept _ c.in_err-check_put_back.ensures (refusal_ne _))
-
-pub invariant_of-t : goal.invariant_of-t
-invariant_of-t c = let v = valid (goal.at.invariant_of-t c).Start c.in_ok-check_put_back.ensures in record { limits = limits_of c.args.r v.on.valid }
+    rw (p.1, p.2) ((put_back_answers c.args.r c.args.tile (image s) c.args.tile_states.now c.args.deltas.now (brought s)).kept _ c.in_err-job.ensures.tested (refusal_ne _))
 
 pub write_region-requires : goal.write_region-requires
 unfolding pixels_of
 write_region-requires c =
-    let v = valid (goal.at.write_region-requires c).Start c.in_ok-check_put_back.ensures in
-    record { tile_bound = v.on.tile_has; cpe_len = (v.on.cpe_length, v.on.indices_length); copy_cpe_len = (v.room.cpe_length, v.room.indices_length) }
+    let v = valid (goal.at.write_region-requires c).Start c.in_ok-job.ensures.tested in
+    rw (c.tiles.ensures, c.in_ok-job.ensures.same) (record { tile_bound = v.on.tile_has; cpe_len = (v.on.cpe_length, v.on.indices_length); copy_cpe_len = (v.room.cpe_length, v.room.indices_length) })
 
 pub bounds-tile_states-i : goal.bounds-tile_states-i
-bounds-tile_states-i c = let v = valid (goal.at.bounds-tile_states-i c).Start c.in_ok-check_put_back.ensures in omega (arith, v.on.tile_has, v.on.states_length)
+bounds-tile_states-i c = let v = valid (goal.at.bounds-tile_states-i c).Start c.in_ok-job.ensures.tested in omega (arith, v.on.tile_has, v.on.states_length)
 
 pub offset_bounds-deltas-i : goal.offset_bounds-deltas-i
 offset_bounds-deltas-i c =
-    let v = valid (goal.at.offset_bounds-deltas-i c).Start c.in_ok-check_put_back.ensures in
+    let v = valid (goal.at.offset_bounds-deltas-i c).Start c.in_ok-job.ensures.tested in
     omega (arith, v.on.tile_has, (sizes c.args.r.plan.tiling (limits_of c.args.r v.on.valid)).tiles_limit)
 
 pub bounds-deltas-i : goal.bounds-deltas-i
-bounds-deltas-i c = let v = valid (goal.at.bounds-deltas-i c).Start c.in_ok-check_put_back.ensures in omega (arith, v.on.tile_has, v.deltas_length)
+bounds-deltas-i c = let v = valid (goal.at.bounds-deltas-i c).Start c.in_ok-job.ensures.tested in omega (arith, v.on.tile_has, v.deltas_length)
 
 pub overflow_add-result : goal.overflow_add-result
 overflow_add-result c =
-    let v = valid (goal.at.overflow_add-result c).Start c.in_ok-check_put_back.ensures in
+    let v = valid (goal.at.overflow_add-result c).Start c.in_ok-job.ensures.tested in
     omega (arith, v.total_most, few_pixels c.args.r v.on.valid)
 
 pub returns : goal.returns
@@ -65,5 +62,5 @@ unfolding with_progress
 returns c =
     let s = (goal.at.returns c).Start in
     let a = c.args in
-    rw (c.from.ensures, c.write_region.ensures)
-    ((put_back_answers a.r a.tile (image s) a.tile_states.now a.deltas.now (brought s)).made accepted c.in_ok-check_put_back.ensures refl)
+    rw (c.from.ensures, c.write_region.ensures, c.tiles.ensures, c.in_ok-job.ensures.same)
+    ((put_back_answers a.r a.tile (image s) a.tile_states.now a.deltas.now (brought s)).made accepted c.in_ok-job.ensures.tested refl)

@@ -8,36 +8,36 @@ use Rattle.base.proofs.RefusalLaws.{Numbered}
 use Rattle.job.specs.Record.{pixels_of}
 use Rattle.job.specs.PutBack.{count_test, put_back_tests}
 use Rattle.job.specs.Work.{copy_test}
-use Rattle.records.proofs.RecordLaws.{limits_of, valid_of, turn_tile, image_states, record_refuses, after_record}
+use Rattle.records.proofs.RecordLaws.{turn_tile, image_states, record_refuses, after_record}
 use Rattle.putbacktests.proofs.check_put_back.Goals as goal
 
-pub returns-in_err-job : goal.returns-in_err-job
+pub returns-in_err-job-clause-tested : goal.returns-in_err-job-clause-tested
 unfolding put_back_tests
-returns-in_err-job c =
+returns-in_err-job-clause-tested c =
     let p = err_from_is_err_and c.from_residual.result c.from_residual.ensures.1 in
     rw (p.1, p.2)
     (record_refuses c.args.r _ _ c.in_err-job.ensures.tested)
 
-pub returns-in_err-refuse_if : goal.returns-in_err-refuse_if
+pub returns-in_err-refuse_if-clause-tested : goal.returns-in_err-refuse_if-clause-tested
 unfolding put_back_tests count_test pixels_of Numbered
-returns-in_err-refuse_if c =
+returns-in_err-refuse_if-clause-tested c =
     let p = err_from_is_err_and c.from_residual-in_err-refuse_if.result c.from_residual-in_err-refuse_if.ensures.1 in
     rw (p.1, p.2, ← c.in_ok-job.ensures.same)
     (after_record _ _ (rw (← c.in_ok-job.ensures.same) at c.in_ok-job.ensures.tested)
     (refused_by _ _ _ (let f = c.in_err-refuse_if.ensures.fails in (sym c.is_over.ensures ∙ f.0, f.1)) refl))
 
-pub returns-in_err-check_turn : goal.returns-in_err-check_turn
+pub returns-in_err-check_turn-clause-tested : goal.returns-in_err-check_turn-clause-tested
 unfolding put_back_tests count_test pixels_of Numbered
-returns-in_err-check_turn c =
+returns-in_err-check_turn-clause-tested c =
     let p = err_from_is_err_and c.from_residual-in_err-check_turn.result c.from_residual-in_err-check_turn.ensures.1 in
     rw (p.1, p.2, ← c.in_ok-job.ensures.same)
     (after_record _ _ (rw (← c.in_ok-job.ensures.same) at c.in_ok-job.ensures.tested)
     (passed_by _ _ (sym c.is_over.ensures ∙ c.in_ok-refuse_if.ensures.passes)
     (ends_at _ (_ ∷ _ ∷ []) _ (omega arith) c.in_err-check_turn.ensures)))
 
-pub returns-in_err-check_image : goal.returns-in_err-check_image
+pub returns-in_err-check_image-clause-tested : goal.returns-in_err-check_image-clause-tested
 unfolding put_back_tests count_test pixels_of Numbered
-returns-in_err-check_image c =
+returns-in_err-check_image-clause-tested c =
     let p = err_from_is_err_and c.from_residual-in_err-check_image.result c.from_residual-in_err-check_image.ensures.1 in
     rw (p.1, p.2, ← c.in_ok-job.ensures.same)
     (after_record _ _ (rw (← c.in_ok-job.ensures.same) at c.in_ok-job.ensures.tested)
@@ -45,57 +45,71 @@ returns-in_err-check_image c =
     (follows (_ ∷ _ ∷ []) _ (omega arith) c.in_ok-check_turn.ensures
     (ends_at _ (_ ∷ _ ∷ _ ∷ []) _ (omega arith) c.in_err-check_image.ensures))))
 
-pub returns-in_err-check_length : goal.returns-in_err-check_length
+pub returns-in_err-check_per_tile-clause-tested : goal.returns-in_err-check_per_tile-clause-tested
 unfolding put_back_tests count_test pixels_of Numbered
-returns-in_err-check_length c =
-    let p = err_from_is_err_and c.from_residual-in_err-check_length.result c.from_residual-in_err-check_length.ensures.1 in
+returns-in_err-check_per_tile-clause-tested c =
+    let p = err_from_is_err_and c.from_residual-in_err-check_per_tile.result c.from_residual-in_err-check_per_tile.ensures.1 in
     rw (p.1, p.2, ← c.in_ok-job.ensures.same)
     (after_record _ _ (rw (← c.in_ok-job.ensures.same) at c.in_ok-job.ensures.tested)
     (passed_by _ _ (sym c.is_over.ensures ∙ c.in_ok-refuse_if.ensures.passes)
     (follows (_ ∷ _ ∷ []) _ (omega arith) c.in_ok-check_turn.ensures
     (follows (_ ∷ _ ∷ _ ∷ []) _ (omega arith) c.in_ok-check_image.ensures
-    (refused_by _ _ _ (rw (c.tile_count.ensures, c.tiles.ensures) at c.in_err-check_length.ensures.fails) refl)))))
+    (ends_at _ (_ ∷ []) _ (omega arith) c.in_err-check_per_tile.ensures)))))
 
 pub check_copy-requires : goal.check_copy-requires
 check_copy-requires c = turn_tile _ _ c.in_ok-check_turn.ensures
 
-pub returns-in_err-check_copy : goal.returns-in_err-check_copy
+pub returns-in_err-check_copy-clause-tested : goal.returns-in_err-check_copy-clause-tested
 unfolding put_back_tests count_test pixels_of Numbered
-returns-in_err-check_copy c =
+returns-in_err-check_copy-clause-tested c =
     let p = err_from_is_err_and c.from_residual-in_err-check_copy.result c.from_residual-in_err-check_copy.ensures.1 in
     rw (p.1, p.2, ← c.in_ok-job.ensures.same)
     (after_record _ _ (rw (← c.in_ok-job.ensures.same) at c.in_ok-job.ensures.tested)
     (passed_by _ _ (sym c.is_over.ensures ∙ c.in_ok-refuse_if.ensures.passes)
     (follows (_ ∷ _ ∷ []) _ (omega arith) c.in_ok-check_turn.ensures
     (follows (_ ∷ _ ∷ _ ∷ []) _ (omega arith) c.in_ok-check_image.ensures
-    (passed_by _ _ (rw (c.tile_count.ensures, c.tiles.ensures) at c.in_ok-check_length.ensures.passes)
+    (follows (_ ∷ []) _ (omega arith) c.in_ok-check_per_tile.ensures
     (ends_at _ (_ ∷ _ ∷ []) _ (omega arith) c.in_err-check_copy.ensures))))))
 
 pub check_state-requires : goal.check_state-requires
 check_state-requires c = omega (arith, turn_tile _ _ c.in_ok-check_turn.ensures, image_states _ _ _ _ c.in_ok-check_image.ensures)
 
-pub returns-in_err-check_state : goal.returns-in_err-check_state
+pub returns-in_err-check_state-clause-tested : goal.returns-in_err-check_state-clause-tested
 unfolding put_back_tests count_test pixels_of Numbered
-returns-in_err-check_state c =
+returns-in_err-check_state-clause-tested c =
     let p = err_from_is_err_and c.from_residual-in_err-check_state.result c.from_residual-in_err-check_state.ensures.1 in
     rw (p.1, p.2, ← c.in_ok-job.ensures.same)
     (after_record _ _ (rw (← c.in_ok-job.ensures.same) at c.in_ok-job.ensures.tested)
     (passed_by _ _ (sym c.is_over.ensures ∙ c.in_ok-refuse_if.ensures.passes)
     (follows (_ ∷ _ ∷ []) _ (omega arith) c.in_ok-check_turn.ensures
     (follows (_ ∷ _ ∷ _ ∷ []) _ (omega arith) c.in_ok-check_image.ensures
-    (passed_by _ _ (rw (c.tile_count.ensures, c.tiles.ensures) at c.in_ok-check_length.ensures.passes)
+    (follows (_ ∷ []) _ (omega arith) c.in_ok-check_per_tile.ensures
     (follows (_ ∷ _ ∷ []) _ (omega arith) c.in_ok-check_copy.ensures
     (ends_at _ (_ ∷ []) _ (omega arith) c.in_err-check_state.ensures)))))))
 
-pub returns : goal.returns
+pub returns-in_err-check_indices-clause-tested : goal.returns-in_err-check_indices-clause-tested
 unfolding put_back_tests count_test pixels_of copy_test Numbered
-returns c =
+returns-in_err-check_indices-clause-tested c =
+    let p = err_from_is_err_and c.from_residual-in_err-check_indices.result c.from_residual-in_err-check_indices.ensures.1 in
+    rw (p.1, p.2, ← c.in_ok-job.ensures.same)
+    (after_record _ _ (rw (← c.in_ok-job.ensures.same) at c.in_ok-job.ensures.tested)
+    (passed_by _ _ (sym c.is_over.ensures ∙ c.in_ok-refuse_if.ensures.passes)
+    (follows (_ ∷ _ ∷ []) _ (omega arith) c.in_ok-check_turn.ensures
+    (follows (_ ∷ _ ∷ _ ∷ []) _ (omega arith) c.in_ok-check_image.ensures
+    (follows (_ ∷ []) _ (omega arith) c.in_ok-check_per_tile.ensures
+    (follows (_ ∷ _ ∷ []) _ (omega arith) c.in_ok-check_copy.ensures
+    (follows (_ ∷ []) _ (omega arith) c.in_ok-check_state.ensures
+    c.in_err-check_indices.ensures)))))))
+
+pub returns-clause-tested : goal.returns-clause-tested
+unfolding put_back_tests count_test pixels_of copy_test Numbered
+returns-clause-tested c =
     rw (← c.in_ok-job.ensures.same)
     (after_record _ _ (rw (← c.in_ok-job.ensures.same) at c.in_ok-job.ensures.tested)
     (passed_by _ _ (sym c.is_over.ensures ∙ c.in_ok-refuse_if.ensures.passes)
     (follows (_ ∷ _ ∷ []) _ (omega arith) c.in_ok-check_turn.ensures
     (follows (_ ∷ _ ∷ _ ∷ []) _ (omega arith) c.in_ok-check_image.ensures
-    (passed_by _ _ (rw (c.tile_count.ensures, c.tiles.ensures) at c.in_ok-check_length.ensures.passes)
+    (follows (_ ∷ []) _ (omega arith) c.in_ok-check_per_tile.ensures
     (follows (_ ∷ _ ∷ []) _ (omega arith) c.in_ok-check_copy.ensures
     (follows (_ ∷ []) _ (omega arith) c.in_ok-check_state.ensures
-    c.check_indices.ensures)))))))
+    c.in_ok-check_indices.ensures)))))))

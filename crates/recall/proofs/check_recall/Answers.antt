@@ -1,13 +1,11 @@
 -- `check_recall` meets its contract: it makes the tests one after the other, and each part finds what it needs where those before it have passed. Assumes nothing.
-use mathlib.Core.Path.{refl, ◌∙◌}
 use mathlib.Core.List.{[], ◌∷◌}
 use native.Mathlib.Omega.{arith}
 use Rattle.std.proofs.lemmas.Result.{err_from_is_err_and}
-use Rattle.base.proofs.JudgeLaws.{ends_at, follows, passed_by, refused_by}
+use Rattle.base.proofs.JudgeLaws.{ends_at, follows}
 use Rattle.base.proofs.RefusalLaws.{Numbered}
 use Rattle.job.specs.Recall.{recall_tests}
-use Rattle.job.proofs.Validity.{equal_of}
-use Rattle.records.proofs.RecordLaws.{limits_of, valid_of, turn_tile, record_refuses, after_record}
+use Rattle.records.proofs.RecordLaws.{turn_tile, per_tile, record_refuses, after_record}
 use Rattle.recall.proofs.check_recall.Goals as goal
 
 pub returns-in_err-job : goal.returns-in_err-job
@@ -25,17 +23,17 @@ returns-in_err-check_turn c =
     (after_record _ _ (rw (← c.in_ok-job.ensures.same) at c.in_ok-job.ensures.tested)
     (ends_at _ (_ ∷ _ ∷ []) _ (omega arith) c.in_err-check_turn.ensures))
 
-pub returns-in_err-check_length : goal.returns-in_err-check_length
+pub returns-in_err-check_per_tile : goal.returns-in_err-check_per_tile
 unfolding recall_tests Numbered
-returns-in_err-check_length c =
-    let p = err_from_is_err_and c.from_residual-in_err-check_length.result c.from_residual-in_err-check_length.ensures.1 in
+returns-in_err-check_per_tile c =
+    let p = err_from_is_err_and c.from_residual-in_err-check_per_tile.result c.from_residual-in_err-check_per_tile.ensures.1 in
     rw (p.1, p.2, ← c.in_ok-job.ensures.same)
     (after_record _ _ (rw (← c.in_ok-job.ensures.same) at c.in_ok-job.ensures.tested)
     (follows (_ ∷ _ ∷ []) _ (omega arith) c.in_ok-check_turn.ensures
-    (refused_by _ _ _ (rw (c.tile_count.ensures, c.tiles.ensures) at c.in_err-check_length.ensures.fails) refl)))
+    (ends_at _ (_ ∷ []) _ (omega arith) c.in_err-check_per_tile.ensures)))
 
 pub check_state-requires : goal.check_state-requires
-check_state-requires c = omega (arith, turn_tile _ _ c.in_ok-check_turn.ensures, rw (c.tile_count.ensures, c.tiles.ensures) at (equal_of _ _ c.in_ok-check_length.ensures.passes))
+check_state-requires c = omega (arith, turn_tile _ _ c.in_ok-check_turn.ensures, per_tile _ _ _ c.in_ok-check_per_tile.ensures)
 
 pub returns : goal.returns
 unfolding recall_tests Numbered
@@ -43,5 +41,5 @@ returns c =
     rw (← c.in_ok-job.ensures.same)
     (after_record _ _ (rw (← c.in_ok-job.ensures.same) at c.in_ok-job.ensures.tested)
     (follows (_ ∷ _ ∷ []) _ (omega arith) c.in_ok-check_turn.ensures
-    (passed_by _ _ (rw (c.tile_count.ensures, c.tiles.ensures) at c.in_ok-check_length.ensures.passes)
+    (follows (_ ∷ []) _ (omega arith) c.in_ok-check_per_tile.ensures
     c.check_state.ensures)))

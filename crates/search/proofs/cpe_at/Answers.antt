@@ -7,5 +7,5 @@ use Rattle.search.proofs.cpe_at.Goals as goal
 pub values_at-requires : goal.values_at-requires
 unfolding place
 values_at-requires c =
-    let a = c.args in
-    omega (arith, c.place.ensures, place_lt 3 a.w a.x a.y 2 c.requires.inside (omega arith))
+    let p = c.args.pixel in
+    omega (arith, c.place.ensures, place_lt 3 p.w p.x p.y 2 p.inside (omega arith))

@@ -1,10 +1,9 @@
 -- `search::evaluate` meets its contract: the pixel lies in the window, its index names an ink, and the two loops are those of the definition. Assumes nothing.
 use mathlib.Core.Path.{◌≡◌, refl}
-use Prim.Native.Nat.{◌+◌, ◌/◌, ◌<◌}
+use Prim.Native.Nat.{◌/◌, ◌<◌}
 use native.Mathlib.Omega.{arith}
 use lib.ListN.{length}
 use lib.Ieee.{neg, of_bits, round}
-use Rattle.base.specs.Limits.{max_inks}
 use Rattle.base.specs.F64.{f64}
 use Rattle.search.specs.Shared.{shared_of}
 use Rattle.search.specs.Search.{no_move}
@@ -25,11 +24,8 @@ ink c =
     let a = c.args in
     omega (arith, c.index_at-k.ensures, ready_index c.requires.ready a.x a.y (held_inside a.s.setup.tiling a.s.tab.w a.x a.y c.requires.held))
 
-pub index_at-k-requires-clause-x1_le_max_side : goal.index_at-k-requires-clause-x1_le_max_side
-index_at-k-requires-clause-x1_le_max_side c = ready_limits c.requires.ready
-
-pub cpe_at-requires-clause-x1_le_max_side : goal.cpe_at-requires-clause-x1_le_max_side
-cpe_at-requires-clause-x1_le_max_side c = ready_limits c.requires.ready
+pub invariant_of-pixel-clause-bounds : goal.invariant_of-pixel-clause-bounds
+invariant_of-pixel-clause-bounds c = ready_limits c.requires.ready
 
 pub overflow_mul-k : goal.overflow_mul-k
 overflow_mul-k c = omega (arith, ink (goal.at.overflow_mul-k c).After-index_at-k, c.requires.ready.few_inks)

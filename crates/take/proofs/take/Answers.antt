@@ -10,7 +10,6 @@ use Rattle.job.specs.Take.{take_tests}
 use Rattle.job.specs.Valid.{ValidTake}
 use Rattle.job.proofs.Answers.{take_answers}
 use Rattle.job.proofs.Validity.{take_passes}
-use Rattle.records.proofs.RecordLaws.{limits_of}
 use Rattle.take.proofs.take.Goals.{Start}
 use Rattle.take.proofs.take.Goals as goal
 
@@ -24,26 +23,23 @@ copies s = pixels s.args.copy_cpe.now s.args.copy_indices.now
 valid : (s : Start) → accepted ≡ judge (take_tests s.args.r s.args.tile (image s) s.args.tile_states.now (copies s)) → ValidTake s.args.r s.args.tile (image s) s.args.tile_states.now (copies s)
 valid s e = (take_passes _ _ _ _ _).0 ((take_answers s.args.r s.args.tile (image s) s.args.tile_states.now (copies s)).passed accepted e refl)
 
-pub returns-in_err-check_take : goal.returns-in_err-check_take
-returns-in_err-check_take c =
-    let s = (goal.at.returns-in_err-check_take c).Start in
+pub returns-in_err-job : goal.returns-in_err-job
+returns-in_err-job c =
+    let s = (goal.at.returns-in_err-job c).Start in
     let p = err_from_is_err_and c.from_residual.result c.from_residual.ensures.1 in
-    rw (p.1, p.2) ((take_answers c.args.r c.args.tile (image s) c.args.tile_states.now (copies s)).kept _ c.in_err-check_take.ensures (refusal_ne _))
-
-pub invariant_of-t : goal.invariant_of-t
-invariant_of-t c = let v = valid (goal.at.invariant_of-t c).Start c.in_ok-check_take.ensures in record { limits = limits_of c.args.r v.on.valid }
+    rw (p.1, p.2) ((take_answers c.args.r c.args.tile (image s) c.args.tile_states.now (copies s)).kept _ c.in_err-job.ensures.tested (refusal_ne _))
 
 pub copy_region-requires : goal.copy_region-requires
 unfolding pixels_of
 copy_region-requires c =
-    let v = valid (goal.at.copy_region-requires c).Start c.in_ok-check_take.ensures in
-    record { tile_bound = v.on.tile_has; cpe_len = (v.on.cpe_length, v.on.indices_length); copy_cpe_len = (v.room.cpe_length, v.room.indices_length) }
+    let v = valid (goal.at.copy_region-requires c).Start c.in_ok-job.ensures.tested in
+    rw (c.tiles.ensures, c.in_ok-job.ensures.same) (record { tile_bound = v.on.tile_has; cpe_len = (v.on.cpe_length, v.on.indices_length); copy_cpe_len = (v.room.cpe_length, v.room.indices_length) })
 
 pub bounds-tile_states-i : goal.bounds-tile_states-i
-bounds-tile_states-i c = let v = valid (goal.at.bounds-tile_states-i c).Start c.in_ok-check_take.ensures in omega (arith, v.on.tile_has, v.on.states_length)
+bounds-tile_states-i c = let v = valid (goal.at.bounds-tile_states-i c).Start c.in_ok-job.ensures.tested in omega (arith, v.on.tile_has, v.on.states_length)
 
 pub returns : goal.returns
 returns c =
     let s = (goal.at.returns c).Start in
-    rw (c.from.ensures, c.copy_region.ensures)
-    ((take_answers c.args.r c.args.tile (image s) c.args.tile_states.now (copies s)).made accepted c.in_ok-check_take.ensures refl)
+    rw (c.from.ensures, c.copy_region.ensures, c.tiles.ensures, c.in_ok-job.ensures.same)
+    ((take_answers c.args.r c.args.tile (image s) c.args.tile_states.now (copies s)).made accepted c.in_ok-job.ensures.tested refl)

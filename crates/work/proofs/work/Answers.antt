@@ -29,35 +29,30 @@ valid s e = (work_passes _ _ _ _ _ _).0 ((work_answers s.args.r s.args.tile s.ar
 inks_are : (s : Start) → accepted ≡ judge (work_tests s.args.r s.args.tile s.args.pinned.now s.args.cpp.now (copies s) s.args.inks.now) → length s.args.inks.now / 3 ≡ s.args.r.plan.inks
 inks_are s e = omega (arith, (valid s e).inks_length)
 
-pub returns-in_err-check_work : goal.returns-in_err-check_work
-returns-in_err-check_work c =
-    let s = (goal.at.returns-in_err-check_work c).Start in
+pub returns-in_err-job : goal.returns-in_err-job
+returns-in_err-job c =
+    let s = (goal.at.returns-in_err-job c).Start in
     let p = err_from_is_err_and c.from_residual.result c.from_residual.ensures.1 in
-    rw (p.1, p.2) ((work_answers c.args.r c.args.tile c.args.pinned.now c.args.cpp.now (copies s) c.args.inks.now).kept _ c.in_err-check_work.ensures (refusal_ne _))
-
-pub invariant_of-t : goal.invariant_of-t
-invariant_of-t c =
-    let start = (goal.at.invariant_of-t c).Start in
-    let v = valid start c.in_ok-check_work.ensures in record { limits = limits_of c.args.r v.valid }
+    rw (p.1, p.2) ((work_answers c.args.r c.args.tile c.args.pinned.now c.args.cpp.now (copies s) c.args.inks.now).kept _ c.in_err-job.ensures.tested (refusal_ne _))
 
 pub region_rect-region-requires : goal.region_rect-region-requires
 region_rect-region-requires c =
     let start = (goal.at.region_rect-region-requires c).Start in
-    let v = valid start c.in_ok-check_work.ensures in v.tile_has
+    let v = valid start c.in_ok-job.ensures.tested in rw (c.tiles-t.ensures, c.in_ok-job.ensures.same) v.tile_has
 
 pub tile_rect-rect-requires : goal.tile_rect-rect-requires
 tile_rect-rect-requires c =
     let start = (goal.at.tile_rect-rect-requires c).Start in
-    let v = valid start c.in_ok-check_work.ensures in v.tile_has
+    let v = valid start c.in_ok-job.ensures.tested in rw (c.tiles-t.ensures, c.in_ok-job.ensures.same) v.tile_has
 
 pub refine_tile-requires : goal.refine_tile-requires
 unfolding pixels_of
 refine_tile-requires c =
     let s = (goal.at.refine_tile-requires c).Start in
     let T = c.args.r.plan.tiling in
-    let v = valid s c.in_ok-check_work.ensures in
+    let v = valid s c.in_ok-job.ensures.tested in
     record {
-      ready = rw (c.region_rect-region.ensures, inks_are s c.in_ok-check_work.ensures) (record {
+      ready = rw (c.region_rect-region.ensures, c.tiles-t.ensures, c.in_ok-job.ensures.same, inks_are s c.in_ok-job.ensures.tested) (record {
         limits = limits_of c.args.r v.valid;
         lum_least = omega (arith, v.valid.lum.low);
         chroma_least = omega (arith, v.valid.chroma.low);
@@ -70,7 +65,7 @@ refine_tile-requires c =
         cpp_room = v.cpp_len;
         named = v.named;
       });
-      covers = rw (c.region_rect-region.ensures, c.tile_rect-rect.ensures) (region_covers T c.args.tile v.tile_has);
+      covers = rw (c.region_rect-region.ensures, c.tiles-t.ensures, c.tile_rect-rect.ensures, c.tiles-t.ensures, c.in_ok-job.ensures.same) (region_covers T c.args.tile v.tile_has);
     }
 
 pub returns : goal.returns
@@ -78,5 +73,5 @@ unfolding refined_copy job_shared
 returns c =
     let s = (goal.at.returns c).Start in
     let a = c.args in
-    rw (c.refine_tile.ensures, c.region_rect-region.ensures, c.tile_rect-rect.ensures, inks_are s c.in_ok-check_work.ensures)
-    ((work_answers a.r a.tile a.pinned.now a.cpp.now (copies s) a.inks.now).made accepted c.in_ok-check_work.ensures refl)
+    rw (c.refine_tile.ensures, c.region_rect-region.ensures, c.tile_rect-rect.ensures, c.tiles-t.ensures, c.in_ok-job.ensures.same, inks_are s c.in_ok-job.ensures.tested)
+    ((work_answers a.r a.tile a.pinned.now a.cpp.now (copies s) a.inks.now).made accepted c.in_ok-job.ensures.tested refl)

@@ -1,72 +1,78 @@
--- `Image::move_at` meets its contract: the copy has room for the pixel with its neighbours. Assumes nothing.
-use Prim.Native.Nat.{◌-◌, ◌*◌, ◌≤◌}
-use native.Mathlib.Omega.{arith}
-use mathlib.Core.Path.{refl, sym}
+-- `Image::move_at` meets its contract: the walk over the pixel's copy tells its move. Assumes nothing.
+use mathlib.Core.Path.{◌≡◌, sym, ap, ◌∙◌}
+use lib.Dec.{eqb}
+use borrow.Author.Tests.{eq-eqb, ne_eqb}
+use Prim.Native.Nat.{◌+◌, ◌*◌, ◌≤◌}
+use lib.ListN.{length}
+use Rattle.std.specs.Prelude.{Some}
 use Rattle.base.specs.declared.Rect.{Rect}
-use Rattle.tiling.specs.declared.Tiling.{Tiling}
-use Rattle.firstmove.specs.Copies.{Row, OnePixel}
+use Rattle.base.specs.Grid.{Inside, area}
+use Rattle.base.specs.Limits.{max_side}
+use Rattle.search.specs.Shared.{Shared, shared_of, index_at}
+use Rattle.firstmove.specs.declared.Kind.{Kind}
+use Rattle.firstmove.specs.FirstMove.{first_move}
+use Rattle.tile.specs.Tile.{state}
+use Rattle.firstmove.specs.Copies.{Part, walked, count_of, kind_of}
 use Rattle.firstmove.proofs.Pixel.{one_pixel}
-use Rattle.firstmove.proofs.Rooms.{order, room, area_is, values_is, taken, pixel_row}
-use Rattle.firstmove.proofs.Image.move_at.Goals.{After-around-w, Start}
+use Rattle.firstmove.proofs.Copies.{ready_as, walked_as}
+use Rattle.firstmove.proofs.Rooms.{pixel_part, image_index, stays_as, moves_as}
+use Rattle.firstmove.proofs.Image.move_at.Goals.{After-image_rect, After-refine_tile-p, Start, then-count_ink-ink, else-count_ink-ink}
 use Rattle.firstmove.proofs.Image.move_at.Goals as goal
 
-abbrev T : Start → Tiling
-T s = s.args.self.setup.tiling
+abbrev S : Start → Shared
+S s = shared_of s.args.self.setup
 
-abbrev Q : Start → Rect
-Q s = one_pixel s.args.x s.args.y
+part : (s : Start) → Part s.args.self.setup.tiling (one_pixel s.args.x s.args.y)
+part s = pixel_part (S s) s.args.self.cpe.now s.args.self.indices.now _ s.args.x s.args.y s.requires.0 s.requires.1 s.args.self.ready
 
-is-pixel : (s : Start) → OnePixel (T s) (Q s)
-is-pixel s = record { in_x = s.requires.0; in_y = s.requires.1; x_end = refl; y_end = refl }
+is-walked : (c : After-refine_tile-p) →
+    state c.refine_tile-p.new.cpe c.refine_tile-p.new.indices c.refine_tile-p.result ≡ walked (shared_of c.args.self.setup) c.args.self.cpe.now c.args.self.indices.now (one_pixel c.args.x c.args.y)
+is-walked c =
+    let s = (goal.at.After-refine_tile-p c).Start in
+    let k = c.copy_around-cpe.ensures in
+    walked_as (S s) c.args.self.cpe.now c.args.self.indices.now _ (one_pixel c.args.x c.args.y) _ k.window_is (part s) c.args.self.ready _ _ k.cpe_is k.indices_are _ c.refine_tile-p.ensures
 
-row : (s : Start) → Row (T s) (Q s)
-row s = pixel_row (T s) (Q s) (is-pixel s)
+-- the pixel lies in the image, whose indices these are
+image : (s : After-image_rect) →
+    let r = s.image_rect.result in
+    Inside r s.args.x s.args.y × (((r.x1 ≤ max_side) × (r.y1 ≤ max_side)) × (length s.args.self.indices.now ≡ area r))
+image s =
+    let a = s.args in
+    image_index (shared_of a.self.setup) a.self.cpe.now a.self.indices.now (length a.self.cpe.now) a.x a.y s.requires.0 s.requires.1 a.self.ready _ s.image_rect.ensures
 
-most : (c : After-around-w) → (c.around-w.result.y1 - c.around-w.result.y0) * (c.around-w.result.x1 - c.around-w.result.x0) ≤ 207
-most c = room (T (goal.at.After-around-w c).Start) (Q (goal.at.After-around-w c).Start) (row (goal.at.After-around-w c).Start) c.around-w.result c.around-w.ensures
+pub invariant_of-pixel : goal.invariant_of-pixel
+invariant_of-pixel c = let b = image (goal.at.invariant_of-pixel c).After-image_rect in record { inside = b.0; bounds = b.1.0 }
 
-pub overflow_add-q : goal.overflow_add-q
-overflow_add-q c = omega (arith, c.requires.0, c.args.self.ready.limits.width_limit)
+pub index_at-k-requires : goal.index_at-k-requires
+index_at-k-requires c = (image (goal.at.index_at-k-requires c).After-image_rect).1.1
 
-pub overflow_add-q-2 : goal.overflow_add-q-2
-overflow_add-q-2 c = omega (arith, c.requires.1, c.args.self.ready.limits.height_limit)
+pub refine_tile-p-requires : goal.refine_tile-p-requires
+refine_tile-p-requires c =
+    let s = (goal.at.refine_tile-p-requires c).Start in
+    let k = c.copy_around-cpe.ensures in
+    let both = ready_as (S s) c.args.self.cpe.now c.args.self.indices.now _ (one_pixel c.args.x c.args.y) _ k.window_is (part s) c.args.self.ready _ _ k.cpe_is k.indices_are in
+    record { ready = both.0; covers = both.1 }
 
-pub around-w-requires : goal.around-w-requires
-around-w-requires c =
-    let p = (row (goal.at.around-w-requires c).Start).part in
-    let l = c.args.self.ready.limits in
-    (omega (arith, p.in_x, l.width_limit), omega (arith, p.in_y, l.height_limit))
-
-pub overflow_sub-n : goal.overflow_sub-n
-overflow_sub-n c = (order (T (goal.at.overflow_sub-n c).Start) (Q (goal.at.overflow_sub-n c).Start) (row (goal.at.overflow_sub-n c).Start) c.around-w.result c.around-w.ensures).1
-
-pub overflow_sub-n-2 : goal.overflow_sub-n-2
-overflow_sub-n-2 c = (order (T (goal.at.overflow_sub-n-2 c).Start) (Q (goal.at.overflow_sub-n-2 c).Start) (row (goal.at.overflow_sub-n-2 c).Start) c.around-w.result c.around-w.ensures).0
-
-pub overflow_mul-n : goal.overflow_mul-n
-overflow_mul-n c = let a = (goal.at.overflow_mul-n c).After-around-w in omega (arith, most a)
-
-pub overflow_mul-n-2 : goal.overflow_mul-n-2
-overflow_mul-n-2 c = let a = (goal.at.overflow_mul-n-2 c).After-around-w in omega (arith, most a)
-
-pub slice_bounds-pixel_move-end : goal.slice_bounds-pixel_move-end
-slice_bounds-pixel_move-end c = let a = (goal.at.slice_bounds-pixel_move-end c).After-around-w in omega (arith, most a, c.told-copy_cpe)
-
-pub slice_bounds-pixel_move-end-2 : goal.slice_bounds-pixel_move-end-2
-slice_bounds-pixel_move-end-2 c = let a = (goal.at.slice_bounds-pixel_move-end-2 c).After-around-w in sym (taken _ _ _ 621 c.told-copy_cpe (omega (arith, most a)) refl)
-
-pub slice_bounds-pixel_move-end-3 : goal.slice_bounds-pixel_move-end-3
-slice_bounds-pixel_move-end-3 c = let a = (goal.at.slice_bounds-pixel_move-end-3 c).After-around-w in omega (arith, most a, c.told-copy_indices)
-
-pub slice_bounds-pixel_move-end-4 : goal.slice_bounds-pixel_move-end-4
-slice_bounds-pixel_move-end-4 c = let a = (goal.at.slice_bounds-pixel_move-end-4 c).After-around-w in sym (taken _ _ _ 207 c.told-copy_indices (most a) refl)
-
-pub pixel_move-requires : goal.pixel_move-requires
-pixel_move-requires c =
-    let a = (goal.at.pixel_move-requires c).After-around-w in
-    let s = (goal.at.pixel_move-requires c).Start in
-    let w = c.around-w.result in
-    record { one_pixel = (is-pixel s, c.around-w.ensures); copy_cpe_len = (taken _ _ _ 621 c.told-copy_cpe (omega (arith, most a)) (values_is (T s) (Q s) (row s) w c.around-w.ensures), taken _ _ _ 207 c.told-copy_indices (most a) (sym (area_is w))) }
+pub returns-then-p-eq0 : goal.returns-then-p-eq0
+returns-then-p-eq0 c =
+    let a = c.args in
+    let w = is-walked (goal.at.returns-then-p-eq0 c).After-refine_tile-p in
+    stays_as (shared_of a.self.setup) a.self.cpe.now a.self.indices.now _ a.x a.y c.requires.0 c.requires.1 a.self.ready _ _ _ w c.if-p-eq0.true
 
 pub returns : goal.returns
-returns c = c.pixel_move.ensures
+returns c =
+    let a = c.args in
+    let k = c.copy_around-cpe.ensures in
+    let w = is-walked (goal.at.returns c).After-refine_tile-p in
+    let pixel = a.y * a.self.setup.tiling.width + a.x in
+    let kind : c.if-count_ink-ink.kind ≡ kind_of (eqb c.count_ink.result c.count_ink-ink.result) = elim c.if-count_ink-ink.branch [
+      | then-count_ink-ink w ↦ w.kind-is ∙ sym (ap kind_of (eq-eqb _ _ w.if-count_ink-ink.true))
+      | else-count_ink-ink w ↦ w.kind-is ∙ sym (ap kind_of (ne_eqb _ _ w.if-count_ink-ink.false))
+    ] in
+    moves_as (shared_of a.self.setup) a.self.cpe.now a.self.indices.now _ a.x a.y c.requires.0 c.requires.1 a.self.ready _ _ _ w
+    _ k.window_is c.index_at-k.result c.count_ink-ink.result c.count_ink.result _
+    (c.index_at-k.ensures ∙ ap (λ (I : Rect). index_at I a.self.indices.now a.x a.y) c.image_rect.ensures)
+    (c.count_ink-ink.ensures ∙ ap (count_of c.index_at-k.result) k.indices_are)
+    c.count_ink.ensures
+    (ap (λ (k : Kind). Some (first_move pixel k c.refine_tile-p.result.delta)) kind)
+    c.if-p-eq0.false

@@ -14,13 +14,13 @@ pub overflow_add-corner : goal.overflow_add-corner
 overflow_add-corner c = let q = at (goal.at.overflow_add-corner c).Start in omega (arith, q.mask, q.mask_bound, q.mask_limit)
 
 pub is_pinned_at-requires : goal.is_pinned_at-requires
-is_pinned_at-requires c = λ some. let q = at (goal.at.is_pinned_at-requires c).Start in omega (arith, q.mask, q.mask_bound, c.args.self.findable.mask some)
+is_pinned_at-requires c = rw c.mask.ensures.pinned (λ some. let q = at (goal.at.is_pinned_at-requires c).Start in omega (arith, q.mask, q.mask_bound, c.args.self.findable.mask some))
 
 pub returns-then-is_pinned_at : goal.returns-then-is_pinned_at
 unfolding partner_place
 returns-then-is_pinned_at c =
     let q = at (goal.at.returns-then-is_pinned_at c).Start in
-    rw (q.beside, pinned_by c.args.self.pinned.now c.args.self.tiling.width q.nx q.ny _ _ q.mask c.is_pinned_at.ensures ∙ c.if-is_pinned_at.true) c.args.self.spotted.self
+    rw (q.beside, pinned_by c.args.self.pinned.now c.args.self.tiling.width q.nx q.ny _ _ q.mask (rw c.mask.ensures.pinned at c.is_pinned_at.ensures) ∙ c.if-is_pinned_at.true) c.args.self.spotted.self
 
 pub overflow_add-result : goal.overflow_add-result
 overflow_add-result c = let q = at (goal.at.overflow_add-result c).Start in omega (arith, q.place, q.place_limit)
@@ -29,4 +29,4 @@ pub returns : goal.returns
 unfolding partner_place
 returns c =
     let q = at (goal.at.returns c).Start in
-    rw (q.beside, pinned_by c.args.self.pinned.now c.args.self.tiling.width q.nx q.ny _ _ q.mask c.is_pinned_at.ensures ∙ c.if-is_pinned_at.false) q.place
+    rw (q.beside, pinned_by c.args.self.pinned.now c.args.self.tiling.width q.nx q.ny _ _ q.mask (rw c.mask.ensures.pinned at c.is_pinned_at.ensures) ∙ c.if-is_pinned_at.false) q.place
