@@ -113,10 +113,10 @@ POINTS = {
     ]),
     "5": ("parameters that travel together; facts in three contracts and more", lambda: [*travelling(), *facts()]),
     "6": ("buffers with a length beside, parallel arrays", lambda: [
-        *lines(r"\b\w+_len: usize\b|\bcount: usize\b|: \[(?:f64|usize); 8\]"),
+        *lines(r"\b\w+_len: usize\b|\bcount: usize\b|\[[A-Za-z]\w*; 8\]"),
     ]),
     "7": ("switches on a step, tables of functions", lambda: [
-        *lines(r"^\s*match (kind\(|channels|phase)|: (?:&?dyn |fn\()"),
+        *lines(r"\bmatch (?:\w+\.)?((kind|letter)\(|channels|phase)|: (?:&?dyn |fn\()"),
     ]),
 }
 
