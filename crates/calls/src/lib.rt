@@ -33,18 +33,24 @@ impl fmt::Display for Counts<'_> {
 
 // The buffers of a call.
 #[derive(Drop)]
-struct Buffers {
+pub struct Buffers {
     lent: Lent<16384>,
     indices: [Index; 16384],
 }
 
 impl Buffers {
     // Each cell is set.
-    fn new() -> Buffers {
+    pub fn new() -> Buffers {
         Buffers {
             lent: Lent::new(),
             indices: [255; 16384],
         }
+    }
+
+    // Each cell is set again.
+    fn clear(&mut self) {
+        self.lent.clear();
+        self.indices.fill(255);
     }
 }
 
@@ -159,9 +165,16 @@ fn find(rt: &impl Print, line: Line<'_>, lent: &mut Lent<16384>) -> io::Result<(
     )
 }
 
-// A call finds each cell of every buffer set.
+// A call finds each cell of every buffer set; measure reads the same bytes into the store that refine had, which writes none of it.
+pub fn call_in(rt: &impl Print, line: Line<'_>, buffers: &mut Buffers) -> io::Result<()> {
+    buffers.clear();
+    refine(rt, line, buffers)?;
+    measure(rt, line, &mut buffers.lent.store)?;
+    buffers.clear();
+    find(rt, line, &mut buffers.lent)
+}
+
+// The same in buffers of its own.
 pub fn call(rt: &impl Print, line: Line<'_>) -> io::Result<()> {
-    refine(rt, line, &mut Buffers::new())?;
-    measure(rt, line, &mut Store::new())?;
-    find(rt, line, &mut Lent::new())
+    call_in(rt, line, &mut Buffers::new())
 }

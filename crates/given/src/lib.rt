@@ -48,6 +48,16 @@ impl Store {
         }
     }
 
+    // Each cell is set again.
+    pub fn clear(&mut self)
+        ensures colours { (self.new.pixels ≡ replicate (length self.old.pixels) 255) × (self.new.palette ≡ replicate (length self.old.palette) 255) }
+        ensures others { self.new.pinned_and_indices ≡ replicate (length self.old.pinned_and_indices) 255 }
+    {
+        self.pixels.fill(255);
+        self.palette.fill(255);
+        self.pinned_and_indices.fill(255);
+    }
+
     // Reads what a line gives, words 1 to 9.
     pub fn read<'a>(&'a mut self, line: Line<'_>) -> Given<'a>
         ensures images { (length result.pixels.now ≤ 16384) × (length result.indices.now ≤ 16384) }
@@ -97,6 +107,18 @@ impl<const CPE: usize> Lent<CPE> {
             inks: [-1.0; 1024],
         }
     }
+
+    // Each cell is set again, in its place: a value made anew would be copied to it.
+    pub fn clear(&mut self)
+        ensures floats { (self.new.cpe ≡ replicate (length self.old.cpe) (neg f1)) × (self.new.cpp ≡ replicate (length self.old.cpp) (neg f1)) × (self.new.inks ≡ replicate (length self.old.inks) (neg f1)) }
+        ensures others { (self.new.counts ≡ replicate (length self.old.counts) 4294967295) × (self.new.store.pinned_and_indices ≡ replicate (length self.old.store.pinned_and_indices) 255) }
+    {
+        self.store.clear();
+        self.cpe.fill(-1.0);
+        self.cpp.fill(-1.0);
+        self.counts.fill(4294967295);
+        self.inks.fill(-1.0);
+    }
 }
 
 // The buffers of a job.
@@ -125,5 +147,19 @@ impl Job {
             copy_cpe: [-1.0; 3072],
             copy_indices: [255; 1024],
         }
+    }
+
+    // Each cell is set again.
+    pub fn clear(&mut self)
+        ensures lent { (self.new.lent.cpe ≡ replicate (length self.old.lent.cpe) (neg f1)) × (self.new.lent.counts ≡ replicate (length self.old.lent.counts) 4294967295) × (self.new.lent.store.pinned_and_indices ≡ replicate (length self.old.lent.store.pinned_and_indices) 255) }
+        ensures job { (self.new.states ≡ replicate (length self.old.states) 255) × (self.new.deltas ≡ replicate (length self.old.deltas) (neg f1)) × (self.new.«record» ≡ replicate (length self.old.«record») 18446744073709551615) }
+        ensures copies { (self.new.copy_cpe ≡ replicate (length self.old.copy_cpe) (neg f1)) × (self.new.copy_indices ≡ replicate (length self.old.copy_indices) 255) }
+    {
+        self.lent.clear();
+        self.states.fill(255);
+        self.deltas.fill(-1.0);
+        self.record.fill(0xffff_ffff_ffff_ffff);
+        self.copy_cpe.fill(-1.0);
+        self.copy_indices.fill(255);
     }
 }

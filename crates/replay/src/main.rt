@@ -6,6 +6,7 @@
 
 ghost use Rattle.std.specs.Prelude.{◌<◌, ◌≤◌, length};
 
+use calls::Buffers;
 use given::Job;
 use lines::Line;
 use std::io::{self, Print, Read};
@@ -36,10 +37,10 @@ fn list_line(rt: &impl Print, text: &[u8], job: &mut Job) -> io::Result<()> {
 }
 
 // A list, which begins with an open, finds each cell of every buffer set.
-fn list(rt: &impl Print, text: &[u8]) -> io::Result<()> {
-    let mut job = Job::new();
+fn list(rt: &impl Print, text: &[u8], job: &mut Job) -> io::Result<()> {
+    job.clear();
     for line in text.split(|b| *b == b'\n') {
-        list_line(rt, line, &mut job)?;
+        list_line(rt, line, job)?;
     }
     Ok(())
 }
@@ -56,13 +57,20 @@ fn part_end(text: &[u8]) -> usize
         .map_or(text.len(), |i| i + 2)
 }
 
+// A call is the first line of its part; what follows it there is read by nothing.
+fn first_line(text: &[u8]) -> Line<'_> {
+    Line::new(text.split(|b| *b == b'\n').next().unwrap_or(text))
+}
+
 fn all_parts(rt: &impl Print, text: &[u8]) -> io::Result<()> {
+    let mut buffers = Buffers::new();
+    let mut job = Job::new();
     let mut rest = text;
     while !rest.is_empty() {
         let (part, others) = rest.split_at(part_end(rest));
         match part {
-            [b'c', ..] => calls::call(rt, Line::new(part))?,
-            _ => list(rt, part)?,
+            [b'c', ..] => calls::call_in(rt, first_line(part), &mut buffers)?,
+            _ => list(rt, part, &mut job)?,
         }
         rest = others;
     }
