@@ -76,16 +76,23 @@ fn blur_into(width: Width, g: &mut [f64], p: &mut [f64])
     blur_from(g, p);
 }
 
-// Normalised (unit-sum) sampled Gaussian, truncated at its blur radius, in room for it or more.
+// Normalised (unit-sum) sampled Gaussian, truncated at its blur radius, in room that is its own.
+pub fn fill_blur(width: Width, p: &mut [f64])
+    requires { length p.old ≡ values (blur_radius width.sigma) }
+    ensures { p.new ≡ gaussian_blur width.sigma }
+{
+    let mut line = [0.0f64; 33];
+    blur_into(width, &mut line[..kernel_side(width.radius())], p);
+}
+
+// The same in room for it or more, lent with its radius.
 pub fn gaussian_blur<'a>(width: Width, room: &'a mut [f64]) -> Blur<'a>
     requires { values (blur_radius width.sigma) ≤ length room.old }
     ensures values_are { result.values.now ≡ gaussian_blur width.sigma }
     ensures radius_is { result.radius ≡ blur_radius width.sigma }
 {
     let radius = width.radius();
-    let side = kernel_side(radius);
-    let mut line = [0.0f64; 33];
     let values = &mut room[..value_count(radius)];
-    blur_into(width, &mut line[..side], values);
+    fill_blur(width, values);
     Blur { values, radius }
 }

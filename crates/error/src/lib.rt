@@ -14,6 +14,18 @@ use base::Index;
 use color::{Channel, YyCxCz};
 use pins::Pins;
 
+// The channel of a number, as definitions count them: Cz from 2 on.
+#[tactic(auto, unfolding(color::specs::Inks::channel))]
+pub fn numbered(c: usize) -> Channel
+    ensures { (v : YyCxCz) → channel (number result) v ≡ channel c v }
+{
+    match c {
+        0 => Channel::Yy,
+        1 => Channel::Cx,
+        2.. => Channel::Cz,
+    }
+}
+
 // What the error of a pixel is read from: the lists of a scene, or of a part of one.
 #[derive(Clone, Copy)]
 pub struct View<'a> {
@@ -71,7 +83,7 @@ pub struct Scene<'a> {
 }
 
 // Three sums grow by a times b, channel by channel.
-fn add_products(s: YyCxCz, a: YyCxCz, b: YyCxCz) -> YyCxCz
+pub fn add_products(s: YyCxCz, a: YyCxCz, b: YyCxCz) -> YyCxCz
     ensures { (c : ℕ) → channel c result ≡ channel c s +f channel c a *f channel c b }
 {
     YyCxCz {

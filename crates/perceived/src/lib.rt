@@ -1,8 +1,8 @@
 // Measuring: `perceived_error` of dbs.rs. Tests 1 to 9, and then an accepted input is measured. Pins play no part.
 #![tactic(auto)]
 
-ghost use Rattle.std.specs.Prelude.{◌≡◌};
-ghost use Rattle.input.specs.Inputs.{input_of};
+ghost use Rattle.std.specs.Prelude.{[], ◌≡◌};
+ghost use Rattle.input.specs.Input.{input};
 ghost use Rattle.perceived.specs.Perceived.{answer_of, measure_of};
 
 use base::{Refusal, Status};
@@ -39,10 +39,14 @@ impl From<Result<f64, Refusal>> for Measured {
     }
 }
 
-// Perceived error of the indices; pins play no part.
+// Perceived error of the indices; pins play no part, whatever the input's mask.
 pub fn measure(given: Input<'_>) -> Result<f64, Refusal>
-    ensures { answer_of result ≡ measure_of (input_of given.entry) }
+    ensures { answer_of result ≡ measure_of (input given.entry.width given.entry.height given.entry.pixels.now given.entry.palette.now given.entry.indices.now [] given.entry.params) }
 {
+    let given = Input {
+        pinned: &[],
+        ..given
+    };
     given.check()?;
     Ok(measuring::perceived_error(given))
 }

@@ -17,7 +17,7 @@ use tiling::{Tiles, Tiling};
 
 // The tiling of an input, its number of tiles, and the lengths of its field and of its ink values.
 #[derive(Clone, Copy)]
-struct Sizes {
+pub struct Sizes {
     pub tiling: Tiling,
     pub tiles: usize,
     pub field: usize,
@@ -25,7 +25,7 @@ struct Sizes {
 }
 
 // Refusals 1 to 9, and the sizes where none applies.
-fn check_sizes(given: Input<'_>) -> Result<Sizes, Refusal>
+pub fn check_sizes(given: Input<'_>) -> Result<Sizes, Refusal>
     ensures { Tested result (input_tests (input_of given.entry)) (sizes_of (input_of given.entry)) }
 {
     let eye = given.check()?;

@@ -1,15 +1,15 @@
 -- `perceived::measure` meets its contract: a refusal is the first test that fails, and else the error is the accepted input's. Assumes nothing.
 use mathlib.Core.Path.{sym}
+use mathlib.Core.List.{[]}
 use Rattle.std.proofs.lemmas.Result.{err_from_is_err_and}
-use Rattle.input.specs.Input.{Input}
-use Rattle.input.specs.Inputs.{input_of}
+use Rattle.input.specs.Input.{Input, input}
 use Rattle.perceived.proofs.Laws.{refused_is, accepted_is}
 use Rattle.perceived.proofs.measure.Goals.{Start}
 use Rattle.perceived.proofs.measure.Goals as goal
 
--- the input
+-- the input with an empty mask
 abbrev I : Start → Input
-I s = input_of s.args.given
+I s = let g = s.args.given in input g.width g.height g.pixels.now g.palette.now g.indices.now [] g.params
 
 pub returns-in_err-check : goal.returns-in_err-check
 returns-in_err-check c =
