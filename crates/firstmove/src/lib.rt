@@ -140,8 +140,8 @@ impl<'a> Image<'a> {
         })
     }
 
-    // The first of a phase: its tiles in ascending number, each by rows. The first pixel that has a move is the answer; a row
-    // over which the walk accepts none is passed at once.
+    // The first of a phase: its tiles in ascending number, each by rows. The first pixel that has a move leaves all three
+    // loops; a row over which the walk accepts none is passed at once.
     // Kept: "labelled nested loops in the settled-plate search, left from the innermost with the dot", the form that document 01
     // names for what request F-1 of document 02 asks.
     fn first_in_phase(self, phase: usize, buffers: &mut Buffers) -> Option<FirstMove>
@@ -150,6 +150,7 @@ impl<'a> Image<'a> {
         let t = Tiles {
             tiling: self.setup.tiling,
         };
+        let mut first = None;
         'tiles: for tile in 0..t.tile_count() {
             if !t.is_in_phase(phase, tile) {
                 continue 'tiles;
@@ -168,13 +169,13 @@ impl<'a> Image<'a> {
                 'columns: for x in q.x0..q.x1 {
                     let here = self.move_at(x, y, buffers);
                     if here.is_some() {
-                        return here;
+                        first = here;
+                        break 'tiles;
                     }
                 }
             }
         }
-        // No pixel of the phase has a move.
-        None
+        first
     }
 }
 

@@ -2,7 +2,7 @@
 -- before; left with a move, they give what they would have given in the end. A row over which the walk accepts no move has none. Assumes nothing.
 use Prim.Native.Nat.{◌<◌}
 use native.Mathlib.Omega.{arith}
-use mathlib.Core.Path.{◌≡◌, sym, ◌∙◌}
+use mathlib.Core.Path.{◌≡◌, refl, sym, ◌∙◌}
 use mathlib.Core.Bool.{true}
 use Rattle.base.proofs.LoopLaws.{up_to_none, from_to_none}
 use Rattle.tiling.specs.Tiling.{tiles, in_phase}
@@ -42,19 +42,19 @@ row c =
 -- ---- what is left to show
 
 pub tiles-init : goal.tiles-init
-tiles-init c = (omega arith, up_to_none _ _)
+tiles-init c = (omega arith, refl, up_to_none _ _)
 
 pub tiles-preserved-then-not-is_in_phase : goal.tiles-preserved-then-not-is_in_phase
 tiles-preserved-then-not-is_in_phase c =
     let l = c.tiles in
     let s = (goal.at.tiles-preserved-then-not-is_in_phase c).Start in
-    (omega (arith, c.tiles-test.true), none_more (S s) c.args.self.cpe.now c.args.self.indices.now c.args.phase l.tile l.invariant.1 (try_skips (S s) c.args.self.cpe.now c.args.self.indices.now c.args.phase l.tile (sym c.is_in_phase.ensures ∙ denied c.is_in_phase.result c.if-not-is_in_phase.true-raw)))
+    (omega (arith, c.tiles-test.true), l.invariant.1, none_more (S s) c.args.self.cpe.now c.args.self.indices.now c.args.phase l.tile l.invariant.2 (try_skips (S s) c.args.self.cpe.now c.args.self.indices.now c.args.phase l.tile (sym c.is_in_phase.ensures ∙ denied c.is_in_phase.result c.if-not-is_in_phase.true-raw)))
 
 pub tile_rect-q-requires : goal.tile_rect-q-requires
 tile_rect-q-requires c = in_count (goal.at.tile_rect-q-requires c).In-tiles
 
 pub rows-init : goal.rows-init
-rows-init c = (omega arith, omega (arith, (some (goal.at.rows-init c).After-tile_rect-q).1), from_to_none _ _ _ _ (omega arith))
+rows-init c = (omega arith, omega (arith, (some (goal.at.rows-init c).After-tile_rect-q).1), c.tiles.invariant.1, from_to_none _ _ _ _ (omega arith))
 
 pub row_moves-requires : goal.row_moves-requires
 row_moves-requires c =
@@ -69,12 +69,13 @@ rows-preserved-then-not-row_moves c =
     let none = quiet_row (S s) c.args.self.cpe.now c.args.self.indices.now c.tile_rect-q.result k.y (row r).part (still _ c.row_moves.result c.row_moves.ensures c.if-not-row_moves.true-raw) in (
       omega (arith, k.invariant.0),
       omega (arith, c.rows-test.true),
-      from_to_none_more (first_in_row (S s) c.args.self.cpe.now c.args.self.indices.now c.tile_rect-q.result) _ k.y k.invariant.0 k.invariant.2 none,
+      k.invariant.2,
+      from_to_none_more (first_in_row (S s) c.args.self.cpe.now c.args.self.indices.now c.tile_rect-q.result) _ k.y k.invariant.0 k.invariant.3 none,
     )
 
 pub columns-init : goal.columns-init
 columns-init c =
-    (omega arith, omega (arith, (some (goal.at.columns-init c).After-tile_rect-q).0), from_to_none _ _ _ _ (omega arith))
+    (omega arith, omega (arith, (some (goal.at.columns-init c).After-tile_rect-q).0), c.rows.invariant.2, from_to_none _ _ _ _ (omega arith))
 
 pub move_at-here-requires : goal.move_at-here-requires
 move_at-here-requires c =
@@ -94,7 +95,8 @@ columns-preserved c =
     let here = column_none (S s) c.args.self.cpe.now c.args.self.indices.now l.x c.rows.y c.move_at-here.result c.move_at-here.ensures (sym c.is_some.ensures ∙ c.if-is_some.false) in (
       omega (arith, l.invariant.0),
       omega (arith, c.columns-test.true),
-      from_to_none_more (column (S s) c.args.self.cpe.now c.args.self.indices.now c.rows.y) _ l.x l.invariant.0 l.invariant.2 here,
+      l.invariant.2,
+      from_to_none_more (column (S s) c.args.self.cpe.now c.args.self.indices.now c.rows.y) _ l.x l.invariant.0 l.invariant.3 here,
     )
 
 pub rows-preserved : goal.rows-preserved
@@ -102,7 +104,7 @@ rows-preserved c =
     let l = c.columns in
     let k = c.rows in
     let s = (goal.at.rows-preserved c).Start in
-    (omega (arith, k.invariant.0), omega (arith, c.rows-test.true), from_to_none_more (first_in_row (S s) c.args.self.cpe.now c.args.self.indices.now c.tile_rect-q.result) _ k.y k.invariant.0 k.invariant.2 (row_none (S s) c.args.self.cpe.now c.args.self.indices.now c.tile_rect-q.result k.y l.x (omega (arith, l.invariant.1, c.columns-test.false)) l.invariant.2))
+    (omega (arith, k.invariant.0), omega (arith, c.rows-test.true), l.invariant.2, from_to_none_more (first_in_row (S s) c.args.self.cpe.now c.args.self.indices.now c.tile_rect-q.result) _ k.y k.invariant.0 k.invariant.3 (row_none (S s) c.args.self.cpe.now c.args.self.indices.now c.tile_rect-q.result k.y l.x (omega (arith, l.invariant.1, c.columns-test.false)) l.invariant.3))
 
 pub tiles-preserved : goal.tiles-preserved
 tiles-preserved c =
@@ -110,13 +112,13 @@ tiles-preserved c =
     let q = (goal.at.tiles-preserved c).After-tile_rect-q in
     let l = c.tiles in
     let s = (goal.at.tiles-preserved c).Start in
-    (omega (arith, c.tiles-test.true), none_more (S s) c.args.self.cpe.now c.args.self.indices.now c.args.phase l.tile l.invariant.1 (tile_none (S s) c.args.self.cpe.now c.args.self.indices.now c.args.phase l.tile c.tile_rect-q.result c.tile_rect-q.ensures (of-phase q) k.y (omega (arith, k.invariant.1, c.rows-test.false)) k.invariant.2))
+    (omega (arith, c.tiles-test.true), k.invariant.2, none_more (S s) c.args.self.cpe.now c.args.self.indices.now c.args.phase l.tile l.invariant.2 (tile_none (S s) c.args.self.cpe.now c.args.self.indices.now c.args.phase l.tile c.tile_rect-q.result c.tile_rect-q.ensures (of-phase q) k.y (omega (arith, k.invariant.1, c.rows-test.false)) k.invariant.3))
 
-pub returns : goal.returns
-returns c =
+pub returns-after-tiles : goal.returns-after-tiles
+returns-after-tiles c =
     let l = c.tiles in
-    let s = (goal.at.returns c).Start in
-    sym (phase_none (S s) c.args.self.cpe.now c.args.self.indices.now c.args.phase l.tile (omega (arith, l.invariant.0, c.tile_count-tile-end.ensures, c.tiles-test.false)) l.invariant.1)
+    let s = (goal.at.returns-after-tiles c).Start in
+    l.invariant.1 ∙ sym (phase_none (S s) c.args.self.cpe.now c.args.self.indices.now c.args.phase l.tile (omega (arith, l.invariant.0, c.tile_count-tile-end.ensures, c.tiles-test.false)) l.invariant.2)
 
 pub returns-then-is_some : goal.returns-then-is_some
 returns-then-is_some c =
@@ -127,6 +129,6 @@ returns-then-is_some c =
     let l = c.tiles in
     let s = (goal.at.returns-then-is_some c).Start in
     let moves = sym c.is_some.ensures ∙ c.if-is_some.true in
-    let row = row_left (S s) c.args.self.cpe.now c.args.self.indices.now c.tile_rect-q.result y.y x.x c.move_at-here.result x.invariant.0 c.columns-test.true x.invariant.2 c.move_at-here.ensures moves in
-    let tile = tile_left (S s) c.args.self.cpe.now c.args.self.indices.now c.args.phase l.tile c.tile_rect-q.result c.tile_rect-q.ensures (of-phase q) y.y c.move_at-here.result y.invariant.0 c.rows-test.true y.invariant.2 row moves in
-    sym (phase_left (S s) c.args.self.cpe.now c.args.self.indices.now c.args.phase l.tile c.move_at-here.result (in_count t) l.invariant.1 tile moves)
+    let row = row_left (S s) c.args.self.cpe.now c.args.self.indices.now c.tile_rect-q.result y.y x.x c.move_at-here.result x.invariant.0 c.columns-test.true x.invariant.3 c.move_at-here.ensures moves in
+    let tile = tile_left (S s) c.args.self.cpe.now c.args.self.indices.now c.args.phase l.tile c.tile_rect-q.result c.tile_rect-q.ensures (of-phase q) y.y c.move_at-here.result y.invariant.0 c.rows-test.true y.invariant.3 row moves in
+    sym (phase_left (S s) c.args.self.cpe.now c.args.self.indices.now c.args.phase l.tile c.move_at-here.result (in_count t) l.invariant.2 tile moves)
