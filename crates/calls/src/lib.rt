@@ -31,41 +31,18 @@ impl fmt::Display for Counts<'_> {
     }
 }
 
-// The buffers of a call.
-#[derive(Drop)]
-pub struct Buffers {
-    lent: Lent<16384>,
-    indices: [Index; 16384],
-}
-
-impl Buffers {
-    // Each cell is set.
-    pub fn new() -> Buffers {
-        Buffers {
-            lent: Lent::new(),
-            indices: [255; 16384],
-        }
-    }
-
-    // Each cell is set again.
-    fn clear(&mut self) {
-        self.lent.clear();
-        self.indices.fill(255);
-    }
-}
-
 // The indices are refined in a buffer of their own.
-fn refine(rt: &impl Print, line: Line<'_>, buffers: &mut Buffers) -> io::Result<()> {
-    let Buffers {
-        lent: Lent {
-            store,
-            cpe,
-            cpp,
-            counts,
-            inks,
-        },
-        indices,
-    } = buffers;
+fn refine(
+    rt: &impl Print,
+    line: Line<'_>,
+    lent: &mut Lent<'_>,
+    indices: &mut [Index],
+) -> io::Result<()> {
+    let store = &mut *lent.store;
+    let cpe = &mut *lent.cpe;
+    let cpp = &mut *lent.cpp;
+    let counts = &mut *lent.counts;
+    let inks = &mut *lent.inks;
     let given = store.read(line);
     let indices = line.bytes(9, indices);
     let cpe = part_mut(cpe, line.number(10));
@@ -126,14 +103,11 @@ fn measure(rt: &impl Print, line: Line<'_>, store: &mut Store) -> io::Result<()>
     )
 }
 
-fn find(rt: &impl Print, line: Line<'_>, lent: &mut Lent<16384>) -> io::Result<()> {
-    let Lent {
-        store,
-        cpe,
-        cpp,
-        inks,
-        ..
-    } = lent;
+fn find(rt: &impl Print, line: Line<'_>, lent: &mut Lent<'_>) -> io::Result<()> {
+    let store = &mut *lent.store;
+    let cpe = &mut *lent.cpe;
+    let cpp = &mut *lent.cpp;
+    let inks = &mut *lent.inks;
     let given = store.read(line);
     let cpe = part_mut(cpe, line.number(10));
     let cpp = part_mut(cpp, line.number(11));
@@ -166,15 +140,18 @@ fn find(rt: &impl Print, line: Line<'_>, lent: &mut Lent<16384>) -> io::Result<(
 }
 
 // A call finds each cell of every buffer set; measure reads the same bytes into the store that refine had, which writes none of it.
-pub fn call_in(rt: &impl Print, line: Line<'_>, buffers: &mut Buffers) -> io::Result<()> {
-    buffers.clear();
-    refine(rt, line, buffers)?;
-    measure(rt, line, &mut buffers.lent.store)?;
-    buffers.clear();
-    find(rt, line, &mut buffers.lent)
-}
-
-// The same in buffers of its own.
+// Not inlined: the arrays are on the stack only while it runs.
+#[inline(never)]
 pub fn call(rt: &impl Print, line: Line<'_>) -> io::Result<()> {
-    call_in(rt, line, &mut Buffers::new())
+    let mut store = Store::new();
+    let mut cpe = [0.0; 16384];
+    let mut cpp = [0.0; 8500];
+    let mut counts = [0; 1024];
+    let mut inks = [0.0; 1024];
+    let mut indices = [255; 16384];
+    let mut lent = Lent::new(&mut store, &mut cpe, &mut cpp, &mut counts, &mut inks);
+    refine(rt, line, &mut lent, &mut indices)?;
+    measure(rt, line, &mut *lent.store)?;
+    lent.clear();
+    find(rt, line, &mut lent)
 }

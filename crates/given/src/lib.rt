@@ -83,35 +83,44 @@ impl Store {
     }
 }
 
-// The buffers that a run is lent, with room for so many numbers in `cpe`.
+// The buffers that a run is lent. They lie where its caller made them: a value with the cells in it would be copied each time it is
+// handed on.
 #[derive(Drop)]
-pub struct Lent<const CPE: usize> {
-    pub store: Store,
-    pub cpe: [f64; CPE],
-    pub cpp: [f64; 8500],
-    pub counts: [u32; 1024],
-    pub inks: [f64; 1024],
+pub struct Lent<'a> {
+    pub store: &'a mut Store,
+    pub cpe: &'a mut [f64],
+    pub cpp: &'a mut [f64; 8500],
+    pub counts: &'a mut [u32; 1024],
+    pub inks: &'a mut [f64; 1024],
 }
 
-impl<const CPE: usize> Lent<CPE> {
+impl<'a> Lent<'a> {
     // Each cell is set.
-    pub fn new() -> Lent<CPE>
-        ensures floats { (result.cpe ≡ replicate CPE (neg f1)) × (result.cpp ≡ replicate 8500 (neg f1)) × (result.inks ≡ replicate 1024 (neg f1)) }
-        ensures others { (result.counts ≡ replicate 1024 4294967295) × (result.store.pinned_and_indices ≡ replicate 32768 255) }
+    pub fn new(
+        store: &'a mut Store,
+        cpe: &'a mut [f64],
+        cpp: &'a mut [f64; 8500],
+        counts: &'a mut [u32; 1024],
+        inks: &'a mut [f64; 1024],
+    ) -> Lent<'a>
+        ensures floats { (result.cpe.now ≡ replicate (length cpe.old) (neg f1)) × (result.cpp.now ≡ replicate (length cpp.old) (neg f1)) × (result.inks.now ≡ replicate (length inks.old) (neg f1)) }
+        ensures others { (result.counts.now ≡ replicate (length counts.old) 4294967295) × (result.store.now.pinned_and_indices ≡ replicate (length store.old.pinned_and_indices) 255) }
     {
-        Lent {
-            store: Store::new(),
-            cpe: [-1.0; CPE],
-            cpp: [-1.0; 8500],
-            counts: [4294967295; 1024],
-            inks: [-1.0; 1024],
-        }
+        let mut buffers = Lent {
+            store,
+            cpe,
+            cpp,
+            counts,
+            inks,
+        };
+        buffers.clear();
+        buffers
     }
 
-    // Each cell is set again, in its place: a value made anew would be copied to it.
+    // Each cell is set again.
     pub fn clear(&mut self)
-        ensures floats { (self.new.cpe ≡ replicate (length self.old.cpe) (neg f1)) × (self.new.cpp ≡ replicate (length self.old.cpp) (neg f1)) × (self.new.inks ≡ replicate (length self.old.inks) (neg f1)) }
-        ensures others { (self.new.counts ≡ replicate (length self.old.counts) 4294967295) × (self.new.store.pinned_and_indices ≡ replicate (length self.old.store.pinned_and_indices) 255) }
+        ensures floats { (self.new.cpe.now ≡ replicate (length self.old.cpe.now) (neg f1)) × (self.new.cpp.now ≡ replicate (length self.old.cpp.now) (neg f1)) × (self.new.inks.now ≡ replicate (length self.old.inks.now) (neg f1)) }
+        ensures others { (self.new.counts.now ≡ replicate (length self.old.counts.now) 4294967295) × (self.new.store.now.pinned_and_indices ≡ replicate (length self.old.store.now.pinned_and_indices) 255) }
     {
         self.store.clear();
         self.cpe.fill(-1.0);
@@ -123,37 +132,46 @@ impl<const CPE: usize> Lent<CPE> {
 
 // The buffers of a job.
 #[derive(Drop)]
-pub struct Job {
-    pub lent: Lent<1024>,
-    pub states: [u8; 64],
-    pub deltas: [f64; 64],
-    pub record: [u64; 16],
-    pub copy_cpe: [f64; 3072],
-    pub copy_indices: [Index; 1024],
+pub struct Job<'a> {
+    pub lent: Lent<'a>,
+    pub states: &'a mut [u8; 64],
+    pub deltas: &'a mut [f64; 64],
+    pub record: &'a mut [u64; 16],
+    pub copy_cpe: &'a mut [f64; 3072],
+    pub copy_indices: &'a mut [Index; 1024],
 }
 
-impl Job {
+impl<'a> Job<'a> {
     // Each cell is set.
-    pub fn new() -> Job
-        ensures lent { (result.lent.cpe ≡ replicate 1024 (neg f1)) × (result.lent.counts ≡ replicate 1024 4294967295) × (result.lent.store.pinned_and_indices ≡ replicate 32768 255) }
-        ensures job { (result.states ≡ replicate 64 255) × (result.deltas ≡ replicate 64 (neg f1)) × (result.record ≡ replicate 16 18446744073709551615) }
-        ensures copies { (result.copy_cpe ≡ replicate 3072 (neg f1)) × (result.copy_indices ≡ replicate 1024 255) }
+    pub fn new(
+        lent: Lent<'a>,
+        states: &'a mut [u8; 64],
+        deltas: &'a mut [f64; 64],
+        record: &'a mut [u64; 16],
+        copy_cpe: &'a mut [f64; 3072],
+        copy_indices: &'a mut [Index; 1024],
+    ) -> Job<'a>
+        ensures lent { (result.lent.cpe.now ≡ replicate (length lent.entry.cpe.now) (neg f1)) × (result.lent.counts.now ≡ replicate (length lent.entry.counts.now) 4294967295) × (result.lent.store.now.pinned_and_indices ≡ replicate (length lent.entry.store.now.pinned_and_indices) 255) }
+        ensures job { (result.states.now ≡ replicate (length states.old) 255) × (result.deltas.now ≡ replicate (length deltas.old) (neg f1)) × (result.«record».now ≡ replicate (length «record».old) 18446744073709551615) }
+        ensures copies { (result.copy_cpe.now ≡ replicate (length copy_cpe.old) (neg f1)) × (result.copy_indices.now ≡ replicate (length copy_indices.old) 255) }
     {
-        Job {
-            lent: Lent::new(),
-            states: [255; 64],
-            deltas: [-1.0; 64],
-            record: [0xffff_ffff_ffff_ffff; 16],
-            copy_cpe: [-1.0; 3072],
-            copy_indices: [255; 1024],
-        }
+        let mut job = Job {
+            lent,
+            states,
+            deltas,
+            record,
+            copy_cpe,
+            copy_indices,
+        };
+        job.clear();
+        job
     }
 
     // Each cell is set again.
     pub fn clear(&mut self)
-        ensures lent { (self.new.lent.cpe ≡ replicate (length self.old.lent.cpe) (neg f1)) × (self.new.lent.counts ≡ replicate (length self.old.lent.counts) 4294967295) × (self.new.lent.store.pinned_and_indices ≡ replicate (length self.old.lent.store.pinned_and_indices) 255) }
-        ensures job { (self.new.states ≡ replicate (length self.old.states) 255) × (self.new.deltas ≡ replicate (length self.old.deltas) (neg f1)) × (self.new.«record» ≡ replicate (length self.old.«record») 18446744073709551615) }
-        ensures copies { (self.new.copy_cpe ≡ replicate (length self.old.copy_cpe) (neg f1)) × (self.new.copy_indices ≡ replicate (length self.old.copy_indices) 255) }
+        ensures lent { (self.new.lent.cpe.now ≡ replicate (length self.old.lent.cpe.now) (neg f1)) × (self.new.lent.counts.now ≡ replicate (length self.old.lent.counts.now) 4294967295) × (self.new.lent.store.now.pinned_and_indices ≡ replicate (length self.old.lent.store.now.pinned_and_indices) 255) }
+        ensures job { (self.new.states.now ≡ replicate (length self.old.states.now) 255) × (self.new.deltas.now ≡ replicate (length self.old.deltas.now) (neg f1)) × (self.new.«record».now ≡ replicate (length self.old.«record».now) 18446744073709551615) }
+        ensures copies { (self.new.copy_cpe.now ≡ replicate (length self.old.copy_cpe.now) (neg f1)) × (self.new.copy_indices.now ≡ replicate (length self.old.copy_indices.now) 255) }
     {
         self.lent.clear();
         self.states.fill(255);

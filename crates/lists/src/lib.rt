@@ -5,7 +5,7 @@
 ghost use Rattle.std.specs.Prelude.{◌≤◌};
 
 use checksum::Checksum;
-use given::{Job, Lent, ROOM, Store};
+use given::{Job, ROOM};
 use lines::{Bits, Line, part, part_mut};
 use std::io::{self, Print};
 
@@ -18,22 +18,14 @@ fn copy_start(line: Line<'_>) -> usize
 
 // Kept: what prints, a line and the job's buffers go apart here and in the calls that follow: a struct of the three would be made of them at
 // each call and taken apart at once.
-pub fn take(rt: &impl Print, line: Line<'_>, job: &mut Job) -> io::Result<()> {
-    let Job {
-        lent: Lent {
-            store: Store {
-                pinned_and_indices,
-                ..
-            },
-            cpe,
-            ..
-        },
-        states,
-        record,
-        copy_cpe,
-        copy_indices,
-        ..
-    } = job;
+pub fn take(rt: &impl Print, line: Line<'_>, job: &mut Job<'_>) -> io::Result<()> {
+    let lent = &mut job.lent;
+    let store = &mut *lent.store;
+    let cpe = &mut *lent.cpe;
+    let states = &mut *job.states;
+    let record = &*job.record;
+    let copy_cpe = &mut *job.copy_cpe;
+    let copy_indices = &mut *job.copy_indices;
     let start = copy_start(line);
     let states = part_mut(states, line.number(5));
     let copy_cpe = part_mut(&mut copy_cpe[3 * start..], line.number(7));
@@ -41,7 +33,7 @@ pub fn take(rt: &impl Print, line: Line<'_>, job: &mut Job) -> io::Result<()> {
     let status = dbs::dbs_take(
         part(record, line.number(6)),
         line.number(1),
-        part(&pinned_and_indices[ROOM..], line.number(3)),
+        part(&store.pinned_and_indices[ROOM..], line.number(3)),
         part(cpe, line.number(4)),
         states,
         copy_cpe,
@@ -56,25 +48,25 @@ pub fn take(rt: &impl Print, line: Line<'_>, job: &mut Job) -> io::Result<()> {
     )
 }
 
-pub fn work(rt: &impl Print, line: Line<'_>, job: &mut Job) -> io::Result<()> {
-    let Job {
-        lent,
-        record,
-        copy_cpe,
-        copy_indices,
-        ..
-    } = job;
+pub fn work(rt: &impl Print, line: Line<'_>, job: &mut Job<'_>) -> io::Result<()> {
+    let lent = &mut job.lent;
+    let store = &mut *lent.store;
+    let cpp = &mut *lent.cpp;
+    let inks = &mut *lent.inks;
+    let record = &*job.record;
+    let copy_cpe = &mut *job.copy_cpe;
+    let copy_indices = &mut *job.copy_indices;
     let start = copy_start(line);
     let copy_cpe = part_mut(&mut copy_cpe[3 * start..], line.number(7));
     let copy_indices = part_mut(&mut copy_indices[start..], line.number(8));
     let worked = dbs::dbs_work(
         part(record, line.number(6)),
         line.number(1),
-        part(&lent.store.pinned_and_indices, line.number(3)),
-        part(&lent.cpp, line.number(4)),
+        part(&store.pinned_and_indices, line.number(3)),
+        part(cpp, line.number(4)),
         copy_cpe,
         copy_indices,
-        part(&lent.inks, line.number(5)),
+        part(inks, line.number(5)),
     );
     println!(rt;
         "worked {} {} {} {} {} {}",
@@ -87,24 +79,17 @@ pub fn work(rt: &impl Print, line: Line<'_>, job: &mut Job) -> io::Result<()> {
     )
 }
 
-pub fn put_back(rt: &impl Print, line: Line<'_>, job: &mut Job) -> io::Result<()> {
-    let Job {
-        lent: Lent {
-            store: Store {
-                pinned_and_indices,
-                ..
-            },
-            cpe,
-            ..
-        },
-        states,
-        deltas,
-        record,
-        copy_cpe,
-        copy_indices,
-    } = job;
+pub fn put_back(rt: &impl Print, line: Line<'_>, job: &mut Job<'_>) -> io::Result<()> {
+    let lent = &mut job.lent;
+    let store = &mut *lent.store;
+    let cpe = &mut *lent.cpe;
+    let states = &mut *job.states;
+    let deltas = &mut *job.deltas;
+    let record = &mut *job.record;
+    let copy_cpe = &*job.copy_cpe;
+    let copy_indices = &*job.copy_indices;
     let start = copy_start(line);
-    let indices = part_mut(&mut pinned_and_indices[ROOM..], line.number(5));
+    let indices = part_mut(&mut store.pinned_and_indices[ROOM..], line.number(5));
     let cpe = part_mut(cpe, line.number(6));
     let states = part_mut(states, line.number(7));
     let deltas = part_mut(deltas, line.number(8));
@@ -132,21 +117,20 @@ pub fn put_back(rt: &impl Print, line: Line<'_>, job: &mut Job) -> io::Result<()
     )
 }
 
-pub fn recall(rt: &impl Print, line: Line<'_>, job: &mut Job) -> io::Result<()> {
-    let Job { states, record, .. } = job;
+pub fn recall(rt: &impl Print, line: Line<'_>, job: &mut Job<'_>) -> io::Result<()> {
+    let states = &mut *job.states;
+    let record = &*job.record;
     let states = part_mut(states, line.number(2));
     let status = dbs::dbs_recall(part(record, line.number(3)), line.number(1), states);
     println!(rt; "recalled {} {}", status, Checksum::of(states))
 }
 
-pub fn close(rt: &impl Print, line: Line<'_>, job: &mut Job) -> io::Result<()> {
-    let Job {
-        lent: Lent { counts, .. },
-        states,
-        deltas,
-        record,
-        ..
-    } = job;
+pub fn close(rt: &impl Print, line: Line<'_>, job: &mut Job<'_>) -> io::Result<()> {
+    let lent = &mut job.lent;
+    let counts = &mut *lent.counts;
+    let states = &mut *job.states;
+    let deltas = &*job.deltas;
+    let record = &mut *job.record;
     let counts = part_mut(counts, line.number(1));
     let states = part_mut(states, line.number(2));
     let record = part_mut(record, line.number(4));
@@ -161,14 +145,14 @@ pub fn close(rt: &impl Print, line: Line<'_>, job: &mut Job) -> io::Result<()> {
 }
 
 // Word I of the record is set.
-pub fn set_word(line: Line<'_>, job: &mut Job) {
+pub fn set_word(line: Line<'_>, job: &mut Job<'_>) {
     if let Some(word) = job.record.get_mut(line.number(1) as usize) {
         *word = line.bits(2);
     }
 }
 
 // Cell I of the copies' indices is set.
-pub fn set_index(line: Line<'_>, job: &mut Job) {
+pub fn set_index(line: Line<'_>, job: &mut Job<'_>) {
     if let Some(index) = job.copy_indices.get_mut(line.number(1) as usize) {
         *index = line.number(2).min(255) as u8;
     }

@@ -3,24 +3,20 @@
 #![tactic(auto)]
 
 use checksum::Checksum;
-use given::{Job, Lent};
+use given::Job;
 use lines::{Line, part, part_mut};
 use std::io::{self, Print};
 
-pub fn open(rt: &impl Print, line: Line<'_>, job: &mut Job) -> io::Result<()> {
-    let Job {
-        lent: Lent {
-            store,
-            cpe,
-            cpp,
-            counts,
-            inks,
-        },
-        states,
-        deltas,
-        record,
-        ..
-    } = job;
+pub fn open(rt: &impl Print, line: Line<'_>, job: &mut Job<'_>) -> io::Result<()> {
+    let lent = &mut job.lent;
+    let store = &mut *lent.store;
+    let cpe = &mut *lent.cpe;
+    let cpp = &mut *lent.cpp;
+    let counts = &*lent.counts;
+    let inks = &mut *lent.inks;
+    let states = &mut *job.states;
+    let deltas = &mut *job.deltas;
+    let record = &mut *job.record;
     let given = store.read(line);
     let cpe = part_mut(cpe, line.number(10));
     let cpp = part_mut(cpp, line.number(11));

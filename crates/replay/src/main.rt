@@ -6,8 +6,7 @@
 
 ghost use Rattle.std.specs.Prelude.{◌<◌, ◌≤◌, length};
 
-use calls::Buffers;
-use given::Job;
+use given::{Job, Lent, Store};
 use lines::Line;
 use std::io::{self, Print, Read};
 
@@ -21,7 +20,7 @@ fn letter(line: &[u8]) -> Option<&u8> {
 }
 
 // Runs a line of a list.
-fn list_line(rt: &impl Print, text: &[u8], job: &mut Job) -> io::Result<()> {
+fn list_line(rt: &impl Print, text: &[u8], job: &mut Job<'_>) -> io::Result<()> {
     let line = Line::new(text);
     match letter(text) {
         Some(b'o') => opens::open(rt, line, job)?,
@@ -36,11 +35,29 @@ fn list_line(rt: &impl Print, text: &[u8], job: &mut Job) -> io::Result<()> {
     Ok(())
 }
 
-// A list, which begins with an open, finds each cell of every buffer set.
-fn list(rt: &impl Print, text: &[u8], job: &mut Job) -> io::Result<()> {
-    job.clear();
+// A list, which begins with an open, finds each cell of every buffer set. Not inlined: the arrays are on the stack only while it runs.
+#[inline(never)]
+fn list(rt: &impl Print, text: &[u8]) -> io::Result<()> {
+    let mut store = Store::new();
+    let mut cpe = [0.0; 1024];
+    let mut cpp = [0.0; 8500];
+    let mut counts = [0; 1024];
+    let mut inks = [0.0; 1024];
+    let mut states = [0; 64];
+    let mut deltas = [0.0; 64];
+    let mut record = [0; 16];
+    let mut copy_cpe = [0.0; 3072];
+    let mut copy_indices = [0; 1024];
+    let mut job = Job::new(
+        Lent::new(&mut store, &mut cpe, &mut cpp, &mut counts, &mut inks),
+        &mut states,
+        &mut deltas,
+        &mut record,
+        &mut copy_cpe,
+        &mut copy_indices,
+    );
     for line in text.split(|b| *b == b'\n') {
-        list_line(rt, line, job)?;
+        list_line(rt, line, &mut job)?;
     }
     Ok(())
 }
@@ -63,14 +80,12 @@ fn first_line(text: &[u8]) -> Line<'_> {
 }
 
 fn all_parts(rt: &impl Print, text: &[u8]) -> io::Result<()> {
-    let mut buffers = Buffers::new();
-    let mut job = Job::new();
     let mut rest = text;
     while !rest.is_empty() {
         let (part, others) = rest.split_at(part_end(rest));
         match part {
-            [b'c', ..] => calls::call_in(rt, first_line(part), &mut buffers)?,
-            _ => list(rt, part, &mut job)?,
+            [b'c', ..] => calls::call(rt, first_line(part))?,
+            _ => list(rt, part)?,
         }
         rest = others;
     }
