@@ -37,15 +37,12 @@ fn correlate_row(p: Blur<'_>, i: usize, j: usize, y: usize, from: f64) -> f64
 {
     let r = p.radius;
     let size = kernel_side(r);
-    let x = overlap_from(p, i);
-    let n = overlap_to(p, i) - x;
-    let here = y * size + x;
-    let there = (y + j - 2 * r) * size + (x + i - 2 * r);
-    let row = &p.values[here..here + n];
-    let displaced = &p.values[there..there + n];
+    let end = overlap_to(p, i);
     let mut s = from;
-    for (a, b) in row.iter().zip(displaced) {
-        s += a * b;
+    for x in overlap_from(p, i)..end {
+        let here = y * size + x;
+        let there = (y + j - 2 * r) * size + (x + i - 2 * r);
+        s += p.values[here] * p.values[there];
     }
     s
 }
